@@ -1,0 +1,39 @@
+// What every layer of the service shares: the two sides of a trade, and what a refusal tells.
+ghost use mathlib.Core.Path.{_≡_};
+ghost use Rattle.base.specs.Letters.{side-of};
+
+// A purchase (letter C in messages and lines) or a sale (letter V).
+#[derive(Clone, Copy, PartialEq, Eq, Debug)]
+pub enum Side {
+    Buy,
+    Sell,
+}
+
+// The side that a letter of a message or a line names.
+pub fn side_of(letter: u8) -> Option<Side>
+    ensures { λ r. ⌜ r ≡ side-of letter ⌝ }
+{
+    match letter as char {
+        'C' => Some(Side::Buy),
+        'V' => Some(Side::Sell),
+        _ => None,
+    }
+}
+
+// The part of the service that refuses.
+#[derive(Clone, Copy, PartialEq, Eq, Debug)]
+pub enum Layer {
+    Book,
+    Message,
+    Block,
+    Quotes,
+    Line,
+}
+
+// What every refusal tells: its number, the layer that refused, and the place in that layer's input.
+#[derive(Clone, Copy, PartialEq, Eq, Debug)]
+pub struct Refusal {
+    pub number: u32,
+    pub layer: Layer,
+    pub place: u64,
+}
