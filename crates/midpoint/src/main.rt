@@ -23,7 +23,10 @@ fn board_of(rt: &LibcRuntime) -> Result<Option<QuoteBoard>, AnyError> {
     let (Some(instrument), Some(security), None) = (args.next(), args.next(), args.next()) else {
         return Ok(None);
     };
-    match (instrument.as_str().parse::<i32>(), SecurityType::named(security.as_str())) {
+    match (
+        instrument.as_str().parse::<i32>(),
+        SecurityType::named(security.as_str()),
+    ) {
         (Ok(instrument), Some(security)) => Ok(Some(QuoteBoard::new(instrument, security))),
         _ => Ok(None),
     }

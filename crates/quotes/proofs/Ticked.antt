@@ -72,9 +72,9 @@ module _ (security : SecurityType) where
       (λ (q : Option ℕ). ticked security q ≡ true)
       (sym (says .becomes))
       (cond-both
-          (clears (f .volume))
-          None
-          (tick-price security (f .price))
-          (λ q. ticked security q ≡ true)
-          (λ _. refl)
-          (λ _. tick-price-ticked (f .price)))
+      (clears (f .volume))
+      None
+      (tick-price security (f .price))
+      (λ q. ticked security q ≡ true)
+      (λ _. refl)
+      (λ _. tick-price-ticked (f .price)))

@@ -42,12 +42,12 @@ int64 bs at =
 abbrev pub fields : List ℕ → RawQuote
 fields bs =
     record {
-        kind = byte bs 0;
-        instrument = int32 bs 1;
-        origin = byte bs 5;
-        volume = int64 bs 6;
-        price = int64 bs 14;
-        side = byte bs 22
+      kind = byte bs 0;
+      instrument = int32 bs 1;
+      origin = byte bs 5;
+      volume = int64 bs 6;
+      price = int64 bs 14;
+      side = byte bs 22;
     }
 
 -- the letter m

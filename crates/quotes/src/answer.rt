@@ -3,11 +3,9 @@ ghost use mathlib.Core.Path.{_≡_};
 ghost use Rattle.std.specs.declared.option.Option.the-variants.{Some};
 ghost use Rattle.quotes.specs.Answer.{answer-text};
 use crate::fault::MessageFault;
-use crate::fault::MessageFaultDebug;
-use crate::fault::MessageFaultPartialEq;
 use std::fmt;
 
-#[derive(Clone, Copy, PartialEq, Eq, Debug)]
+#[derive(Clone, Copy)]
 pub enum Answer {
     Midpoint(Option<u32>),
     Refused(MessageFault),

@@ -26,7 +26,12 @@ pub struct Quotes {
 }
 
 // The rows with one quote replaced.
-fn with_quote(rows: [[Option<u32>; 2]; 2], origin: Origin, side: Side, quote: Option<u32>) -> [[Option<u32>; 2]; 2]
+fn with_quote(
+    rows: [[Option<u32>; 2]; 2],
+    origin: Origin,
+    side: Side,
+    quote: Option<u32>,
+) -> [[Option<u32>; 2]; 2]
     ensures { λ r. ⌜ r ≡ laid rows origin side quote ⌝ }
 {
     let [[bmv_bid, bmv_offer], [biva_bid, biva_offer]] = rows;
@@ -131,11 +136,11 @@ impl QuoteBoard {
         }
     }
 
-    // The four quotes, by value.
-    pub fn quotes(&self) -> Quotes
-        ensures { λ r. ⌜ r ≡ now (self .entry) .quotes ⌝ }
+    // The midpoint of the quotes that stand.
+    pub fn midpoint(&self) -> Option<u32>
+        ensures { λ r. ⌜ r ≡ midpoint (now (self .entry) .quotes .rows) ⌝ }
     {
-        self.quotes
+        self.quotes.midpoint()
     }
 
     // The message at the front of the bytes, laid on a copy of the quotes.

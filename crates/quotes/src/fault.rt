@@ -4,7 +4,7 @@ ghost use Rattle.quotes.specs.Faults.{refusal};
 use base::Layer;
 use base::Refusal;
 
-#[derive(Clone, Copy, PartialEq, Eq, Debug)]
+#[derive(Clone, Copy)]
 pub enum MessageFault {
     TooShort,
     NotLastQuote,

@@ -14,7 +14,7 @@ use base::Side;
 use base::side_of;
 
 // The exchange that sent a quote.
-#[derive(Clone, Copy, PartialEq, Eq, Debug)]
+#[derive(Clone, Copy)]
 pub enum Origin {
     Bmv,
     Biva,
@@ -90,11 +90,19 @@ fn price_of(security: SecurityType, hundred_millionths: i64) -> Option<u32>
     let Ok(price) = u32::try_from(units / 10_000) else {
         return None;
     };
-    if is_on_tick(security, price) { Some(price) } else { None }
+    if is_on_tick(security, price) {
+        Some(price)
+    } else {
+        None
+    }
 }
 
 // The questions of the fields, in their order.
-fn judge(raw: &RawQuote, instrument: i32, security: SecurityType) -> Result<QuoteUpdate, MessageFault>
+fn judge(
+    raw: &RawQuote,
+    instrument: i32,
+    security: SecurityType,
+) -> Result<QuoteUpdate, MessageFault>
     ensures { λ r. ⌜ Cases r (λ u. (first-no (field-questions instrument security (now (raw .entry))) ≡ 0) × Says security (now (raw .entry)) u) (λ f. refusal f .number ≡ first-no (field-questions instrument security (now (raw .entry)))) ⌝ }
 {
     let 'm' = raw.kind as char else {
@@ -130,7 +138,11 @@ fn judge(raw: &RawQuote, instrument: i32, security: SecurityType) -> Result<Quot
 }
 
 // The message at the front of the bytes, read for one instrument, and the bytes behind it.
-pub fn read_message(bytes: &[u8], instrument: i32, security: SecurityType) -> Result<(QuoteUpdate, &[u8]), MessageFault>
+pub fn read_message(
+    bytes: &[u8],
+    instrument: i32,
+    security: SecurityType,
+) -> Result<(QuoteUpdate, &[u8]), MessageFault>
     ensures { λ r. ⌜ Cases r (λ p. (first-no (message-questions instrument security (now (bytes .entry))) ≡ 0) × Says security (fields (now (bytes .entry))) (p .0) × (now (p .1) ≡ drop 24 (now (bytes .entry)))) (λ f. refusal f .number ≡ first-no (message-questions instrument security (now (bytes .entry)))) ⌝ }
 {
     let Some((raw, rest)) = take_apart(bytes) else {

@@ -24,10 +24,11 @@ returns-in-Ok c =
     let bs = c .args .bytes .now in
     let cut = c .in-Some .ensures tt in
     let h : 24 ≤ length bs = omega (arith, cut .2) in
-    let met = c .in-Ok .ensures tt in
-    ( sym (long (c .args .instrument) (c .args .security) bs (c .in-Some .raw) (c .fits .instrument) h (cut .0)) ∙ met .0
-    , subst (λ (f : RawQuote). Says (c .args .security) f (c .in-Ok .update)) (cut .0) (met .1)
-    , cut .1)
+    let met = c .in-Ok .ensures tt in (
+      sym (long (c .args .instrument) (c .args .security) bs (c .in-Some .raw) (c .fits .instrument) h (cut .0)) ∙ met .0,
+      subst (λ (f : RawQuote). Says (c .args .security) f (c .in-Ok .update)) (cut .0) (met .1),
+      cut .1,
+    )
 
 pub returns-in-Err : need.returns-in-Err
 returns-in-Err c =

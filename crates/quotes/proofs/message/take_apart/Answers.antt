@@ -17,12 +17,12 @@ use Rattle.quotes.proofs.message.take_apart.Needs as need
 abbrev raw : List ℕ → ℤ → ℤ → ℤ → RawQuote
 raw bs i v p =
     record {
-        kind = getD bs 0 0;
-        instrument = toZ w32 (ofZ w32 i);
-        origin = getD bs 5 0;
-        volume = toZ w64 (ofZ w64 v);
-        price = toZ w64 (ofZ w64 p);
-        side = getD bs 22 0
+      kind = getD bs 0 0;
+      instrument = toZ w32 (ofZ w32 i);
+      origin = getD bs 5 0;
+      volume = toZ w64 (ofZ w64 v);
+      price = toZ w64 (ofZ w64 p);
+      side = getD bs 22 0;
     }
 
 is-fields : (bs : List ℕ) (i v p : ℤ) → SFits w32 i → SFits w64 v → SFits w64 p → i ≡ int32 bs 1 → v ≡ int64 bs 6 → p ≡ int64 bs 14 → raw bs i v p ≡ fields bs

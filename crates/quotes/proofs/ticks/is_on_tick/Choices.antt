@@ -17,8 +17,8 @@ Inv-loop-row l =
     → k < l .row-index
     → getD (l .row-items) k first-row .security ≡ l .security
     → steps-to
-        (getD (l .row-items) k first-row .lowest)
-        (getD (l .row-items) k first-row .highest)
-        (getD (l .row-items) k first-row .step)
-        (l .price)
-      ≡ false
+    (getD (l .row-items) k first-row .lowest)
+    (getD (l .row-items) k first-row .highest)
+    (getD (l .row-items) k first-row .step)
+    (l .price)
+    ≡ false

@@ -10,6 +10,6 @@ returns c =
     let rows = c .args .self .now .rows in
     let h = c .args .self .now .sound in
     record {
-        value = c .higher .ensures .value;
-        sound = c .higher .ensures .sound s (each s rows h Bmv Buy) (each s rows h Biva Buy)
+      value = c .higher .ensures .value;
+      sound = c .higher .ensures .sound s (each s rows h Bmv Buy) (each s rows h Biva Buy);
     }

@@ -10,6 +10,6 @@ returns c =
     let rows = c .args .self .now .rows in
     let h = c .args .self .now .sound in
     record {
-        value = c .lower .ensures .value;
-        sound = c .lower .ensures .sound s (each s rows h Bmv Sell) (each s rows h Biva Sell)
+      value = c .lower .ensures .value;
+      sound = c .lower .ensures .sound s (each s rows h Bmv Sell) (each s rows h Biva Sell);
     }
