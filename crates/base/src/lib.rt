@@ -2,7 +2,7 @@
 ghost use mathlib.Core.Path.{_≡_};
 ghost use Rattle.base.specs.Letters.{side-of};
 
-// A purchase (letter C in messages and lines) or a sale (letter V).
+// A purchase or a sale.
 #[derive(Clone, Copy, PartialEq, Eq, Debug)]
 pub enum Side {
     Buy,
