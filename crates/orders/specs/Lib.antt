@@ -1,0 +1,3 @@
+pub mod Kind
+pub mod Limits
+pub mod Ranking

@@ -1,0 +1,7 @@
+pub mod Calls
+pub mod Day
+pub mod Faults
+pub mod Pairs
+pub mod Promises
+pub mod Questions
+pub mod Sweep
