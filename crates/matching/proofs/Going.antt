@@ -1,17 +1,16 @@
 -- A sweep under way: whatever sweep follows from here, with the fills made so far it is a sweep from the start.
 use mathlib.Core.List.{List, [], _∷_, _++_}
 use mathlib.Core.Path.{_≡_, refl, sym, ap, subst, _∙_}
-use mathlib.Core.Logic.{inl, inr}
 use Prim.Native.Nat.{ℕ, _+_, _-_, _≤_, _<_, min}
 use native.Mathlib.Omega.{arith}
 use lib.ListN.{length, set, take, drop}
-use Rattle.std.proofs.shelf.Lists.{append-assoc, append-nil, drop-drop, drop-set-lt, length-set, length-take-le, take-all, take-more-set}
-use Rattle.std.proofs.shelf.Tests.{cases-lt}
+use Rattle.std.proofs.shelf.Lists.{append-assoc, append-nil, drop-drop, drop-set-lt, length-set, length-take-le, take-more-set}
 use Rattle.orders.specs.declared.trade.Fill.{Fill}
 use Rattle.orders.specs.Kind.{Kind}
 use Rattle.orders.specs.Ranking.{Ranking}
 use Rattle.rules.specs.Pairs.{Still}
 use Rattle.rules.specs.Sweep.{Sweep, ends, fills, fill-of, settled}
+use Rattle.matching.proofs.Places.{take-min}
 use Rattle.matching.specs.Sweeping.{Filled-first, Swept-in-place}
 
 pub record Going {O : Type 0} (kind : Kind O) (rank : Ranking) (price : ℕ) (xs : List O) (tape₀ : List Fill) (table : List O) (tape : List Fill) (made rests : ℕ) : Type 0 where
@@ -22,14 +21,6 @@ pub record Going {O : Type 0} (kind : Kind O) (rank : Ranking) (price : ℕ) (xs
   pub long : length tape ≡ length tape₀
   pub enough : length xs - 1 ≤ length tape₀
   pub fits : made ≤ length tape
-
--- a front longer than the list is the list
-take-min : {X : Type 0} (n : ℕ) (xs : List X) → take (min n (length xs)) xs ≡ take n xs
-take-min n xs =
-    elim (cases-lt n (length xs)) [
-      | inl less ↦ let e : min n (length xs) ≡ n = omega arith in ap (λ m. take m xs) e
-      | inr more ↦ take-all (min n (length xs)) xs (omega arith) ∙ sym (take-all n xs more)
-    ]
 
 module _ {O : Type 0} (kind : Kind O) (rank : Ranking) (price : ℕ) where
   pub going-none : (table : List O) (tape : List Fill) (n : ℕ) → n ≤ length table → n - 1 ≤ length tape → Going kind rank price (take n table) tape table tape 0 n

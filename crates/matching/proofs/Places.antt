@@ -2,10 +2,10 @@
 use mathlib.Core.List.{List, [], _∷_, _++_}
 use mathlib.Core.Logic.{_⊎_, inl, inr}
 use mathlib.Core.Path.{_≡_, refl, sym, ap, _∙_}
-use Prim.Native.Nat.{ℕ, _<_, _≤_, _+_}
+use Prim.Native.Nat.{ℕ, _<_, _≤_, _+_, min}
 use native.Mathlib.Omega.{arith}
 use lib.ListN.{length, getD, take}
-use Rattle.std.proofs.shelf.Lists.{getD-default, getD-append-left, getD-push, length-push, take-more}
+use Rattle.std.proofs.shelf.Lists.{getD-default, getD-append-left, getD-push, length-push, take-all, take-more}
 use Rattle.std.proofs.shelf.Tests.{cases-lt}
 use Rattle.rules.specs.Pairs.{Place}
 
@@ -35,3 +35,11 @@ module _ {X : Type 0} where
   -- one element more of the front of a list
   pub take-read : (xs : List X) (i : ℕ) (x : X) → i < length xs → x ≡ getD xs i x → take (i + 1) xs ≡ take i xs ++ (x ∷ [])
   take-read xs i x within read = take-more xs i x within ∙ ap (λ y. take i xs ++ (y ∷ [])) (sym read)
+
+  -- a front longer than the list is the list
+  pub take-min : (n : ℕ) (xs : List X) → take (min n (length xs)) xs ≡ take n xs
+  take-min n xs =
+      elim (cases-lt n (length xs)) [
+          inl less ↦ let e : min n (length xs) ≡ n = omega arith in ap (λ m. take m xs) e
+        | inr more ↦ take-all (min n (length xs)) xs (omega arith) ∙ sym (take-all n xs more)
+      ]

@@ -1,0 +1,5 @@
+mod Days
+mod Finding
+mod Listing
+mod Made
+mod Party

@@ -1,0 +1,6 @@
+pub mod Asked
+pub mod Called
+pub mod Closed
+pub mod Holding
+pub mod Swept
+pub mod View

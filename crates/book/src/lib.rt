@@ -1,0 +1,5 @@
+// The book: one security, one day. Open it takes calls; closed it tells what is left.
+mod ask;
+pub mod closed;
+pub mod open;
+mod table;
