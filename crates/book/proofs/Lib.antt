@@ -3,3 +3,4 @@ mod Finding
 mod Listing
 mod Made
 mod Party
+mod Running
