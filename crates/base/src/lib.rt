@@ -1,6 +1,7 @@
-// What every layer of the service shares: the two sides of a trade, and what a refusal tells.
+// What every layer of the service shares: the two sides of a trade, prices, and what a refusal tells.
 ghost use mathlib.Core.Path.{_≡_};
 ghost use Rattle.base.specs.Letters.{side-of};
+ghost use Rattle.base.specs.Price.{price-in-range};
 
 // A purchase or a sale.
 #[derive(Clone, Copy, PartialEq, Eq, Debug)]
@@ -18,6 +19,15 @@ pub fn side_of(letter: u8) -> Option<Side>
         'V' => Some(Side::Sell),
         _ => None,
     }
+}
+
+const HIGHEST_PRICE: u32 = 100_000_000;
+
+// Is it a price, in ten-thousandths of a peso?
+pub fn is_price(price: u32) -> bool
+    ensures { λ r. ⌜ r ≡ price-in-range price ⌝ }
+{
+    1 <= price && price <= HIGHEST_PRICE
 }
 
 // The part of the service that refuses.

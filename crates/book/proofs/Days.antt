@@ -44,11 +44,11 @@ module _ {O P : Type 0} (kind : Kind O) (rank : Ranking) where
       let right = subst (λ (st : State O). Right kind rank (capacity-of (places book)) st tape call out) (holds .state) (called .right) in
       let lawful : Lawful kind (capacity-of (places book)) (e ∷ day) = (right, holds .lawful) in
       record {
-          holds = record {
-            lawful = subst (λ (n : ℕ). Lawful kind (capacity-of n) (e ∷ day)) (sym (same .long)) lawful;
-            state = called .state ∙ ap (λ st. state-after kind st call out) (holds .state)
-          };
-          kept = every-lawful-day-keeps kind (capacity-of (places book)) (e ∷ day) lawful
+        holds = record {
+          lawful = subst (λ (n : ℕ). Lawful kind (capacity-of n) (e ∷ day)) (sym (same .long)) lawful;
+          state = called .state ∙ ap (λ st. state-after kind st call out) (holds .state);
+        };
+        kept = every-lawful-day-keeps kind (capacity-of (places book)) (e ∷ day) lawful;
       }
 
   -- what `apply` ensures, from what the call that it made ensures
@@ -62,10 +62,10 @@ module _ {O P : Type 0} (kind : Kind O) (rank : Ranking) where
   applied book after call before-tape after-tape r out is called tape same =
       let right = subst (λ (o : Outcome). Called kind rank book call (length before-tape) o after) is called in
       record {
-          called = right;
-          tape = tape;
-          table = same;
-          day = goes-on book after call (length before-tape) (outcome r after-tape) right same
+        called = right;
+        tape = tape;
+        table = same;
+        day = goes-on book after call (length before-tape) (outcome r after-tape) right same;
       }
 
   pub fills-applied : (book after : OpenBook O P) (call made : Call O) (before-tape after-tape : List Fill) (r : Result ℕ BookFault) (a : Result Answer BookFault) → call ≡ made → a ≡ fills-answer r → Called kind rank book made (length before-tape) (fills-outcome r after-tape) after → Fills-at-front r before-tape after-tape → Same-table book after → Applied book after call before-tape after-tape a

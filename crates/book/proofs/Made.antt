@@ -76,69 +76,71 @@ module _ {O : Type 0} (kind : Kind O) (rank : Ranking) where
     pub refused-call : (call : Call O) (fault : BookFault) (cap : ℕ) → cap ≡ capacity-of (places book) → refusal fault .number ≡ first-no (questions kind cap (view book) tape call) → (refusal fault .number ≡ 0 → ⊥) → Called kind rank book call tape (refused (refusal fault .number)) book
     refused-call call fault cap same first some =
         record {
-            right = (subst (λ (c : ℕ). refusal fault .number ≡ first-no (questions kind c (view book) tape call)) same first, some);
-            state = refl
+          right = (subst (λ (c : ℕ). refusal fault .number ≡ first-no (questions kind c (view book) tape call)) same first, some);
+          state = refl;
         }
 
     pub accepted-entry : (o : O) (after : OpenBook O P) (fs : List Fill) (cap : ℕ) → cap ≡ capacity-of (places book) → first-no (questions kind cap (view book) tape (Enter o)) ≡ 0 → Swept kind rank (book .price) (view book .resting ++ (o ∷ [])) fs (view after .resting) → after .price ≡ book .price → after .highest ≡ kind .header o .party .folio → Called kind rank book (Enter o) tape (filled fs) after
     accepted-entry o after fs cap same none swept price highest =
         record {
-            right = (subst (λ (c : ℕ). first-no (questions kind c (view book) tape (Enter o)) ≡ 0) same none, (view after .resting, swept));
-            state = same-state (view after .resting) (all-settled kind fs (view book .resting ++ (o ∷ []))) (after .price) (book .price) (after .highest) (kind .header o .party .folio) (swept-settles (book .price) (view book .resting ++ (o ∷ [])) (view after .resting) fs swept) price highest
+          right = (subst (λ (c : ℕ). first-no (questions kind c (view book) tape (Enter o)) ≡ 0) same none, (view after .resting, swept));
+          state = same-state (view after .resting) (all-settled kind fs (view book .resting ++ (o ∷ []))) (after .price) (book .price) (after .highest) (kind .header o .party .folio) (swept-settles (book .price) (view book .resting ++ (o ∷ [])) (view after .resting) fs swept) price highest;
         }
 
     pub unknown-cancel : (p : Party) → None ≡ mapped (kind .header) (order-of kind (p .folio) (view book .resting)) → Called kind rank book (Cancel p) tape (refused 8) book
     unknown-cancel p none =
         let no-order = none-shown (kind .header) (order-of kind (p .folio) (view book .resting)) none in
         record {
-            right = (sym (cond-false (isSome (order-of kind (p .folio) (view book .resting))) _ 8 (ap isSome no-order)), λ e. omega arith);
-            state = refl
+          right = (sym (cond-false (isSome (order-of kind (p .folio) (view book .resting))) _ 8 (ap isSome no-order)), λ e. omega arith);
+          state = refl;
         }
 
     pub foreign-cancel : (p : Party) (h : Header) → Some h ≡ mapped (kind .header) (order-of kind (p .folio) (view book .resting)) → (h .party .house ≡ p .house → ⊥) → Called kind rank book (Cancel p) tape (refused 9) book
     foreign-cancel p h some apart =
         let found = order-shown (kind .header) (order-of kind (p .folio) (view book .resting)) h some in
         let foreign : is-of-house kind (p .house) (order-of kind (p .folio) (view book .resting)) ≡ false =
-              ap (is-of-house kind (p .house)) (found .1) ∙ ne-eqb (kind .header (found .0) .party .house) (p .house) (λ e. apart (sym (ap (λ k. k .party .house) (found .2)) ∙ e)) in
+        ap (is-of-house kind (p .house)) (found .1) ∙ ne-eqb (kind .header (found .0) .party .house) (p .house) (λ e. apart (sym (ap (λ k. k .party .house) (found .2)) ∙ e)) in
         record {
-            right =
-              ( sym
+          right = (
+            sym
                 (cond-true (isSome (order-of kind (p .folio) (view book .resting))) _ 8 (ap isSome (found .1))
-                ∙ cond-false (is-of-house kind (p .house) (order-of kind (p .folio) (view book .resting))) 0 9 foreign)
-              , λ e. omega arith);
-            state = refl
+                ∙ cond-false (is-of-house kind (p .house) (order-of kind (p .folio) (view book .resting))) 0 9 foreign),
+            λ e. omega arith,
+          );
+          state = refl;
         }
 
     pub accepted-cancel : (p : Party) (h : Header) (after : OpenBook O P) → Some h ≡ mapped (kind .header) (order-of kind (p .folio) (view book .resting)) → h .party .house ≡ p .house → view after .resting ≡ kept-by (other-folio kind (p .folio)) (view book .resting) → after .price ≡ book .price → after .highest ≡ book .highest → Called kind rank book (Cancel p) tape (cancelled (h .left)) after
     accepted-cancel p h after some own rests price highest =
         let found = order-shown (kind .header) (order-of kind (p .folio) (view book .resting)) h some in
         let owned : is-of-house kind (p .house) (order-of kind (p .folio) (view book .resting)) ≡ true =
-              ap (is-of-house kind (p .house)) (found .1) ∙ eq-eqb (kind .header (found .0) .party .house) (p .house) (ap (λ k. k .party .house) (found .2) ∙ own) in
+        ap (is-of-house kind (p .house)) (found .1) ∙ eq-eqb (kind .header (found .0) .party .house) (p .house) (ap (λ k. k .party .house) (found .2) ∙ own) in
         record {
-            right =
-              ( cond-true (isSome (order-of kind (p .folio) (view book .resting))) _ 8 (ap isSome (found .1))
-                ∙ cond-true (is-of-house kind (p .house) (order-of kind (p .folio) (view book .resting))) 0 9 owned
-              , (found .0, found .1, sym (ap (λ k. k .left) (found .2))));
-            state = same-state (view after .resting) (kept-by (other-folio kind (p .folio)) (view book .resting)) (after .price) (book .price) (after .highest) (book .highest) rests price highest
+          right = (
+            cond-true (isSome (order-of kind (p .folio) (view book .resting))) _ 8 (ap isSome (found .1))
+                ∙ cond-true (is-of-house kind (p .house) (order-of kind (p .folio) (view book .resting))) 0 9 owned,
+            (found .0, found .1, sym (ap (λ k. k .left) (found .2))),
+          );
+          state = same-state (view after .resting) (kept-by (other-folio kind (p .folio)) (view book .resting)) (after .price) (book .price) (after .highest) (book .highest) rests price highest;
         }
 
     pub accepted-none : (asked : Option ℕ) (after : OpenBook O P) → asked ≡ None → view after .resting ≡ view book .resting → after .price ≡ None → after .highest ≡ book .highest → Called kind rank book (Price asked) tape (filled []) after
     accepted-none asked after is rests price highest =
         subst (λ (p : Option ℕ). Called kind rank book (Price p) tape (filled []) after) (sym is) (record {
-            right = (refl, (view book .resting, (refl, refl)));
-            state = same-state (view after .resting) (view book .resting) (after .price) None (after .highest) (book .highest) rests price highest
+          right = (refl, (view book .resting, (refl, refl)));
+          state = same-state (view after .resting) (view book .resting) (after .price) None (after .highest) (book .highest) rests price highest;
         })
 
     pub accepted-price : (asked : Option ℕ) (q : ℕ) (after : OpenBook O P) (fs : List Fill) → asked ≡ Some q → first-no (price-questions kind (view book) tape (Some q)) ≡ 0 → Swept kind rank (Some q) (view book .resting) fs (view after .resting) → after .price ≡ Some q → after .highest ≡ book .highest → Called kind rank book (Price asked) tape (filled fs) after
     accepted-price asked q after fs is none swept price highest =
         subst (λ (p : Option ℕ). Called kind rank book (Price p) tape (filled fs) after) (sym is) (record {
-            right = (none, (view after .resting, swept));
-            state = same-state (view after .resting) (all-settled kind fs (view book .resting)) (after .price) (Some q) (after .highest) (book .highest) (swept-settles (Some q) (view book .resting) (view after .resting) fs swept) price highest
+          right = (none, (view after .resting, swept));
+          state = same-state (view after .resting) (all-settled kind fs (view book .resting)) (after .price) (Some q) (after .highest) (book .highest) (swept-settles (Some q) (view book .resting) (view after .resting) fs swept) price highest;
         })
 
     pub accepted-cross : (p : Party) (v q : ℕ) (after : OpenBook O P) (fs : List Fill) → first-no (cross-questions kind (view book) tape p v) ≡ 0 → book .price ≡ Some q → fs ≡ cross-fill q p v ∷ [] → view after .resting ≡ view book .resting → after .price ≡ book .price → after .highest ≡ p .folio → Called kind rank book (Cross p v) tape (filled fs) after
     accepted-cross p v q after fs none in-force made rests price highest =
         record {
-            right = (none, (q, in-force, made));
-            state = same-state (view after .resting) (view book .resting) (after .price) (book .price) (after .highest) (p .folio) rests price highest
+          right = (none, (q, in-force, made));
+          state = same-state (view after .resting) (view book .resting) (after .price) (book .price) (after .highest) (p .folio) rests price highest;
         }

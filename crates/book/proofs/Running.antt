@@ -96,28 +96,28 @@ module _ {O P : Type 0} (kind : Kind O) (rank : Ranking) (calls : List (Call O))
       let within = fills-within r part part-after taped in
       let long : length (take used tape ++ part-after) ≡ length tape = length-append (take used tape) part-after ∙ (omega (arith, run .fits)) in
       record {
-          day = event rank call (length part) (outcome r part-after) ∷ run .day;
-          holds = on .holds;
-          made = ap (λ cs. cs ++ (call ∷ [])) (run .made) ∙ sym (take-read calls i call below read);
-          made-with = (refl, omega (arith, run .tape-long), run .made-with);
-          told = (take i replies, r, take-more-set replies i r room, tells r part part-after taped, run .told);
-          replies-behind = drop-set-lt (i + 1) replies i r (omega arith) ∙ sym (drop-drop 1 i replies) ∙ ap (drop 1) (run .replies-behind) ∙ drop-drop 1 i replies₀;
-          replies-long = length-set replies i r ∙ run .replies-long;
-          fills-are =
+        day = event rank call (length part) (outcome r part-after) ∷ run .day;
+        holds = on .holds;
+        made = ap (λ cs. cs ++ (call ∷ [])) (run .made) ∙ sym (take-read calls i call below read);
+        made-with = (refl, omega (arith, run .tape-long), run .made-with);
+        told = (take i replies, r, take-more-set replies i r room, tells r part part-after taped, run .told);
+        replies-behind = drop-set-lt (i + 1) replies i r (omega arith) ∙ sym (drop-drop 1 i replies) ∙ ap (drop 1) (run .replies-behind) ∙ drop-drop 1 i replies₀;
+        replies-long = length-set replies i r ∙ run .replies-long;
+        fills-are =
             ap (take (used + told-fills r)) now
             ∙ take-front (take used tape) part-after used (told-fills r) front-long
             ∙ ap (λ fs. fs ++ take (told-fills r) part-after) (run .fills-are)
             ∙ ap (λ fs. day-fills (run .day) ++ fs) (front-fills r part part-after taped);
-          fits = let n = ap length now in omega arith;
-          tape-behind =
+        fits = let n = ap length now in omega arith;
+        tape-behind =
             ap (drop (used + told-fills r)) now
             ∙ drop-front (take used tape) part-after used (told-fills r) front-long
             ∙ behind-fills r part part-after taped
             ∙ ap (drop (told-fills r)) (rest ∙ run .tape-behind)
             ∙ drop-drop (told-fills r) used tape₀;
-          tape-long = ap length now ∙ long ∙ run .tape-long;
-          table = same-twice book₀ book after (run .table) same;
-          kept-all = on .kept
+        tape-long = ap length now ∙ long ∙ run .tape-long;
+        table = same-twice book₀ book after (run .table) same;
+        kept-all = on .kept;
       }
 
   -- the same as the code has it: n is the length of the tape, told how many fills the answer tells
@@ -131,14 +131,14 @@ module _ {O P : Type 0} (kind : Kind O) (rank : Ranking) (calls : List (Call O))
   pub ran : (book : OpenBook O P) (replies : List (Result Answer BookFault)) (tape : List Fill) (used i : ℕ) → i ≡ length calls → Running kind rank calls replies₀ tape₀ book₀ book replies tape used i → Day-run kind rank calls replies₀ tape₀ book replies tape used
   ran book replies tape used i all run =
       record {
-          day = run .day;
-          holds = run .holds;
-          made = run .made ∙ take-all i calls (omega arith);
-          made-with = run .made-with;
-          told = subst (λ (n : ℕ). All-told (run .day) (take n replies)) all (run .told);
-          replies-behind = subst (λ (n : ℕ). drop n replies ≡ drop n replies₀) all (run .replies-behind);
-          fills-are = run .fills-are;
-          fills-counted = sym (length-take-le used tape (run .fits)) ∙ ap length (run .fills-are);
-          tape-behind = run .tape-behind;
-          kept-all = run .kept-all
+        day = run .day;
+        holds = run .holds;
+        made = run .made ∙ take-all i calls (omega arith);
+        made-with = run .made-with;
+        told = subst (λ (n : ℕ). All-told (run .day) (take n replies)) all (run .told);
+        replies-behind = subst (λ (n : ℕ). drop n replies ≡ drop n replies₀) all (run .replies-behind);
+        fills-are = run .fills-are;
+        fills-counted = sym (length-take-le used tape (run .fits)) ∙ ap length (run .fills-are);
+        tape-behind = run .tape-behind;
+        kept-all = run .kept-all;
       }

@@ -3,21 +3,22 @@ ghost use mathlib.Core.Bool.{_&&_};
 ghost use mathlib.Core.Path.{_≡_};
 ghost use lib.Dec.{eqb};
 ghost use lib.ListN.{length};
-ghost use Rattle.base.specs.Price.{price-in-range};
 ghost use Rattle.orders.specs.Limits.{volume-in-range};
 ghost use Rattle.rules.specs.Questions.{State, entry-questions, cross-questions, price-questions};
 ghost use Rattle.std.specs.declared.option.Option.the-variants.{Some};
 ghost use Rattle.std.specs.Vec.{made};
 ghost use Rattle.book.specs.Asked.{Asked, party-questions};
+use base::is_price;
 use orders::order::Order;
 use orders::trade::Header;
 use orders::trade::Party;
 use rules::fault::BookFault;
 
 const HIGHEST_HOUSE: u32 = 999;
+
 const HIGHEST_FOLIO: u32 = 2_147_483_647;
+
 const HIGHEST_VOLUME: u32 = 9_000_000;
-const HIGHEST_PRICE: u32 = 100_000_000;
 
 fn is_volume(volume: u32) -> bool
     ensures { λ r. ⌜ r ≡ volume-in-range volume ⌝ }
@@ -30,12 +31,6 @@ fn is_whole(header: &Header) -> bool
     ensures { λ r. ⌜ r ≡ (volume-in-range (now (header .entry) .entered) && eqb (now (header .entry) .left) (now (header .entry) .entered)) ⌝ }
 {
     is_volume(header.entered) && header.left == header.entered
-}
-
-fn is_price(price: u32) -> bool
-    ensures { λ r. ⌜ r ≡ price-in-range price ⌝ }
-{
-    1 <= price && price <= HIGHEST_PRICE
 }
 
 // The house and the folio of an entry or a cross.
@@ -106,7 +101,11 @@ pub(crate) fn ask_cross<O: Order>(
 }
 
 // A price to be put in force, over that many resting orders.
-pub(crate) fn ask_price<O: Order>(price: u32, resting: usize, places: usize) -> Result<(), BookFault>
+pub(crate) fn ask_price<O: Order>(
+    price: u32,
+    resting: usize,
+    places: usize,
+) -> Result<(), BookFault>
     ensures { λ r. ⌜ ((st : State O) → length (st .resting) ≡ resting → Asked (price-questions kind st places (Some price)) r) ⌝ }
 {
     if !is_price(price) {

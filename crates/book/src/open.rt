@@ -132,7 +132,12 @@ impl<'a, O: Order, P: Priority> OpenBook<'a, O, P> {
     }
 
     // Trades a volume within one house at the price in force; no order takes part. Answers its one fill.
-    pub fn cross(&mut self, party: Party, volume: u32, tape: &mut [Fill]) -> Result<usize, BookFault>
+    pub fn cross(
+        &mut self,
+        party: Party,
+        volume: u32,
+        tape: &mut [Fill],
+    ) -> Result<usize, BookFault>
         ensures called { λ r. ⌜ Called kind ranking (now (self .entry)) (Cross party volume) (length (now (tape .entry))) (fills-outcome r (now (tape .exit))) (now (self .exit)) ⌝ }
         ensures tape { λ r. ⌜ Fills-at-front r (now (tape .entry)) (now (tape .exit)) ⌝ }
         ensures table { λ _. ⌜ Same-table (now (self .entry)) (now (self .exit)) ⌝ }

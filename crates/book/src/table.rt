@@ -69,10 +69,7 @@ pub(crate) fn sweep_at<O: Order, P: Priority>(
     ensures { λ r. ⌜ Swept-at kind ranking price (take resting (now (table .entry))) (now (tape .entry)) (now (table .exit)) (now (tape .exit)) r ⌝ }
 {
     let Some(price) = price else {
-        return Swept {
-            fills: 0,
-            resting,
-        };
+        return Swept { fills: 0, resting };
     };
     match sweep::<O, P>(table, resting, price, tape) {
         Some(done) => done,

@@ -40,6 +40,6 @@ module _ {X : Type 0} where
   pub take-min : (n : ℕ) (xs : List X) → take (min n (length xs)) xs ≡ take n xs
   take-min n xs =
       elim (cases-lt n (length xs)) [
-          inl less ↦ let e : min n (length xs) ≡ n = omega arith in ap (λ m. take m xs) e
+        | inl less ↦ let e : min n (length xs) ≡ n = omega arith in ap (λ m. take m xs) e
         | inr more ↦ take-all (min n (length xs)) xs (omega arith) ∙ sym (take-all n xs more)
       ]

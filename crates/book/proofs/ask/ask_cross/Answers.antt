@@ -11,8 +11,9 @@ pub returns-in-Err : need.returns-in-Err
 returns-in-Err g c =
     let asked = c .in-Err .ensures tt in
     record {
-        asked = λ st high price.
-          ( by-first-two (house-in-range (c .args .party .house)) (folio-in-range (c .args .party .folio) && ltb (st .highest) (c .args .party .folio)) (refusal (c .in-Err .fault) .number) _ (rw high (asked .0)) (asked .1)
-          , asked .1);
-        made = tt
+      asked = λ st high price. (
+        by-first-two (house-in-range (c .args .party .house)) (folio-in-range (c .args .party .folio) && ltb (st .highest) (c .args .party .folio)) (refusal (c .in-Err .fault) .number) _ (rw high (asked .0)) (asked .1),
+        asked .1,
+      );
+      made = tt;
     }

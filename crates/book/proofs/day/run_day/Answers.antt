@@ -45,9 +45,10 @@ returns g c =
     let run = c .loop-place .inv in
     let all : c .loop-place .place ≡ length (c .args .calls .now) = omega (arith, c .loop-place-test .left, c .loop-place .kept .place-end) in
     record {
-        ran =
-          ( cond-true (leb (length (c .args .calls .now)) (length (c .args .replies .now))) 0 12 (le-leb (length (c .args .calls .now)) (length (c .args .replies .now)) (c .if-replies-calls .left))
-          , ran (g .O·Order .kind) (g .P·Priority .ranking) (c .args .calls .now) (c .args .replies .now) (c .args .tape .now) (c .new-book .result) (c .loop-place .book) (c .loop-place .replies) (c .loop-place .tape) (c .loop-place .used) (c .loop-place .place) all run);
-        long = run .table .long ∙ c .new-book .ensures .long;
-        lent = run .table .lent ∙ c .new-book .ensures .lent
+      ran = (
+        cond-true (leb (length (c .args .calls .now)) (length (c .args .replies .now))) 0 12 (le-leb (length (c .args .calls .now)) (length (c .args .replies .now)) (c .if-replies-calls .left)),
+        ran (g .O·Order .kind) (g .P·Priority .ranking) (c .args .calls .now) (c .args .replies .now) (c .args .tape .now) (c .new-book .result) (c .loop-place .book) (c .loop-place .replies) (c .loop-place .tape) (c .loop-place .used) (c .loop-place .place) all run,
+      );
+      long = run .table .long ∙ c .new-book .ensures .long;
+      lent = run .table .lent ∙ c .new-book .ensures .lent;
     }

@@ -24,10 +24,10 @@ loop-place-again g c =
     let below : i < length xs = omega (arith, c .loop-place-test .taken, c .pre) in
     let shown : c .header .result .party .folio ≡ kind .header x .party .folio = ap (λ h. h .party .folio) (c .header .ensures) in
     elim (c .if-header-folio .came) [
-        then-header-folio w ↦
-        closing-kept (λ o. o) test xs ys k i x x (c .if-header-folio .table) (c .if-header-folio .end) refl (w .table-is) (w .end-is) (c .loop-place .inv) below (c .index-table-place .is) (ap not (ne-eqb (kind .header x .party .folio) (c .args .folio) (λ e. w .if-header-folio .taken (shown ∙ e))))
+      | then-header-folio w ↦
+          closing-kept (λ o. o) test xs ys k i x x (c .if-header-folio .table) (c .if-header-folio .end) refl (w .table-is) (w .end-is) (c .loop-place .inv) below (c .index-table-place .is) (ap not (ne-eqb (kind .header x .party .folio) (c .args .folio) (λ e. w .if-header-folio .taken (shown ∙ e))))
       | else-header-folio w ↦
-        closing-skipped (λ o. o) test xs ys k i x (c .if-header-folio .table) (c .if-header-folio .end) (w .table-is) (w .end-is) (c .loop-place .inv) below (c .index-table-place .is) (ap not (eq-eqb (kind .header x .party .folio) (c .args .folio) (sym shown ∙ w .if-header-folio .left)))
+          closing-skipped (λ o. o) test xs ys k i x (c .if-header-folio .table) (c .if-header-folio .end) (w .table-is) (w .end-is) (c .loop-place .inv) below (c .index-table-place .is) (ap not (eq-eqb (kind .header x .party .folio) (c .args .folio) (sym shown ∙ w .if-header-folio .left)))
     ]
 
 pub returns : need.returns
@@ -36,6 +36,6 @@ returns g c =
     let xs = c .args .table .now in
     let all : c .loop-place .place ≡ c .args .resting = omega (arith, c .loop-place-test .left, c .loop-place .kept .place-end) in
     record {
-        front = closed (λ o. o) test xs (c .loop-place .table) (c .loop-place .end) (c .loop-place .place) (c .args .resting) all (c .loop-place .inv) ∙ ap (kept-by test) (map-id (take (c .args .resting) xs));
-        bound = omega (arith, c .loop-place .inv .behind)
+      front = closed (λ o. o) test xs (c .loop-place .table) (c .loop-place .end) (c .loop-place .place) (c .args .resting) all (c .loop-place .inv) ∙ ap (kept-by test) (map-id (take (c .args .resting) xs));
+      bound = omega (arith, c .loop-place .inv .behind);
     }

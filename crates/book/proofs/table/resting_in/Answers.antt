@@ -10,7 +10,7 @@ returns g c =
     let table = c .args .table .now in
     let resting = c .args .resting in
     record {
-        value = c .min .ensures ∙ sym (length-take resting table);
-        within = omega (arith, c .min .ensures);
-        front = ap (λ n. take n table) (c .min .ensures) ∙ take-min resting table
+      value = c .min .ensures ∙ sym (length-take resting table);
+      within = omega (arith, c .min .ensures);
+      front = ap (λ n. take n table) (c .min .ensures) ∙ take-min resting table;
     }

@@ -34,6 +34,6 @@ pub returns : need.returns
 returns g c =
     let all : c .loop-place .place ≡ c .args .resting = omega (arith, c .loop-place-test .left, c .loop-place .kept .place-end) in
     record {
-        front = rw (← all) (c .loop-place .inv .front);
-        behind = rw (← all) (c .loop-place .inv .behind)
+      front = rw (← all) (c .loop-place .inv .front);
+      behind = rw (← all) (c .loop-place .inv .behind);
     }

@@ -5,8 +5,8 @@ use Rattle.book.proofs.open.OpenBook.close.Needs as need
 pub returns : need.returns
 returns g c =
     record {
-        resting = refl;
-        long = refl;
-        free = length-drop (c .args .self .resting) (c .args .self .table .now);
-        lent = refl
+      resting = refl;
+      long = refl;
+      free = length-drop (c .args .self .resting) (c .args .self .table .now);
+      lent = refl;
     }

@@ -16,9 +16,9 @@ returns-in-Err g c =
     let book = c .args .self .now in
     let asked = c .in-Err .ensures tt .asked (view book) refl refl in
     record {
-        called = refused-call (g .O·Order .kind) (g .P·Priority .ranking) book (length (c .args .tape .now)) (Cross (c .args .party) (c .args .volume)) (c .in-Err .fault) _ refl (asked .0) (asked .1);
-        tape = refl;
-        table = unmoved book
+      called = refused-call (g .O·Order .kind) (g .P·Priority .ranking) book (length (c .args .tape .now)) (Cross (c .args .party) (c .args .volume)) (c .in-Err .fault) _ refl (asked .0) (asked .1);
+      tape = refl;
+      table = unmoved book;
     }
 
 pub index-tape-0 : need.index-tape-0
@@ -41,7 +41,7 @@ returns g c =
     let one = cross-room kind (view book) (length tape) p v asked in
     let long = length-set tape 0 (cross-fill q p v) in
     record {
-        called = accepted-cross kind rank book (length tape) p v q _ (take 1 (set tape 0 (cross-fill q p v))) asked (c .in-Ok .ensures tt .made) (take-more-set tape 0 (cross-fill q p v) (omega arith)) refl refl refl;
-        tape = (omega arith, drop-set-lt 1 tape 0 (cross-fill q p v) (omega arith));
-        table = moved book _ refl refl
+      called = accepted-cross kind rank book (length tape) p v q _ (take 1 (set tape 0 (cross-fill q p v))) asked (c .in-Ok .ensures tt .made) (take-more-set tape 0 (cross-fill q p v) (omega arith)) refl refl refl;
+      tape = (omega arith, drop-set-lt 1 tape 0 (cross-fill q p v) (omega arith));
+      table = moved book _ refl refl;
     }

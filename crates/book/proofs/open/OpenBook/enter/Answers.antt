@@ -14,9 +14,9 @@ returns-in-Err g c =
     let book = c .args .self .now in
     let asked = c .in-Err .ensures tt (view book) (sym (c .rests-resting .ensures .value)) refl in
     record {
-        called = refused-call (g .O·Order .kind) (g .P·Priority .ranking) book (length (c .args .tape .now)) (Enter (c .args .order)) (c .in-Err .fault) (c .min-capacity .result) (c .min-capacity .ensures) (asked .0) (asked .1);
-        tape = refl;
-        table = unmoved book
+      called = refused-call (g .O·Order .kind) (g .P·Priority .ranking) book (length (c .args .tape .now)) (Enter (c .args .order)) (c .in-Err .fault) (c .min-capacity .result) (c .min-capacity .ensures) (asked .0) (asked .1);
+      tape = refl;
+      table = unmoved book;
     }
 
 pub admit-done-requires : need.admit-done-requires
@@ -38,7 +38,7 @@ returns g c =
     let o = c .args .order in
     let swept = subst (λ (xs : List (g .O .Denot)). Swept kind rank (book .price) (xs ++ (o ∷ [])) (take (c .admit-done .result .fills) (c .admit-done .last .tape)) (take (c .admit-done .result .resting) (c .admit-done .last .table))) (c .rests-resting .ensures .front) (done .swept) in
     record {
-        called = accepted-entry kind rank book (length (c .args .tape .now)) o _ (take (c .admit-done .result .fills) (c .admit-done .last .tape)) (c .min-capacity .result) (c .min-capacity .ensures) asked swept refl (ap (λ h. h .party .folio) (c .header-folio .ensures));
-        tape = (done .fills-fit, done .behind);
-        table = moved book _ refl (omega arith)
+      called = accepted-entry kind rank book (length (c .args .tape .now)) o _ (take (c .admit-done .result .fills) (c .admit-done .last .tape)) (c .min-capacity .result) (c .min-capacity .ensures) asked swept refl (ap (λ h. h .party .folio) (c .header-folio .ensures));
+      tape = (done .fills-fit, done .behind);
+      table = moved book _ refl (omega arith);
     }

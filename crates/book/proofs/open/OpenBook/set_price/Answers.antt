@@ -21,9 +21,9 @@ returns-in-rest g c =
     let book = c .args .self .now in
     let tape = length (c .args .tape .now) in
     record {
-        called = accepted-none kind rank book tape (c .args .price) _ (c .in-rest .is) refl refl refl;
-        tape = (omega arith, refl);
-        table = moved book _ refl refl
+      called = accepted-none kind rank book tape (c .args .price) _ (c .in-rest .is) refl refl refl;
+      tape = (omega arith, refl);
+      table = moved book _ refl refl;
     }
 
 pub returns-in-Err : need.returns-in-Err
@@ -34,9 +34,9 @@ returns-in-Err g c =
     let tape = length (c .args .tape .now) in
     let asked = c .in-Err .ensures tt (view book) (sym (c .rests-resting .ensures .value)) in
     record {
-        called = subst (λ (p : Option ℕ). Called kind rank book (Price p) tape (refused (refusal (c .in-Err .fault) .number)) book) (sym (c .in-Some .is)) (refused-call kind rank book tape (Price (Some (c .in-Some .in-force))) (c .in-Err .fault) _ refl (asked .0) (asked .1));
-        tape = refl;
-        table = unmoved book
+      called = subst (λ (p : Option ℕ). Called kind rank book (Price p) tape (refused (refusal (c .in-Err .fault) .number)) book) (sym (c .in-Some .is)) (refused-call kind rank book tape (Price (Some (c .in-Some .in-force))) (c .in-Err .fault) _ refl (asked .0) (asked .1));
+      tape = refl;
+      table = unmoved book;
     }
 
 pub sweep-at-done-requires : need.sweep-at-done-requires
@@ -59,7 +59,7 @@ returns g c =
     let fs = take (c .sweep-at-done .result .fills) (c .sweep-at-done .last .tape) in
     let swept = subst (λ (xs : List (g .O .Denot)). Swept kind rank (Some q) xs fs (take (c .sweep-at-done .result .resting) (c .sweep-at-done .last .table))) (c .rests-resting .ensures .front) (done .swept) in
     record {
-        called = accepted-price kind rank book tape (c .args .price) q _ fs (c .in-Some .is) asked swept refl refl;
-        tape = (done .fills-fit, done .behind);
-        table = moved book _ refl (omega arith)
+      called = accepted-price kind rank book tape (c .args .price) q _ fs (c .in-Some .is) asked swept refl refl;
+      tape = (done .fills-fit, done .behind);
+      table = moved book _ refl (omega arith);
     }

@@ -1,0 +1,4 @@
+pub mod Closing
+pub mod Midpoint
+pub mod Priorities
+pub mod Reduction
