@@ -69,7 +69,10 @@ fn write_answer<W: Write + Drop>(
 }
 
 // The orders that are left, and their number.
-fn write_unfilled<W: Write + Drop>(output: &mut BufWriter<W>, book: &ClosedBook<'_, MidpointOrder>) -> io::Result<()> {
+fn write_unfilled<W: Write + Drop>(
+    output: &mut BufWriter<W>,
+    book: &ClosedBook<'_, MidpointOrder>,
+) -> io::Result<()> {
     let mut list = [Unfilled { folio: 0, left: 0 }; PLACES];
     let count = book.unfilled(&mut list).ok().unwrap_or(0);
     for order in list.iter().take(count) {
