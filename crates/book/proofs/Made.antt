@@ -37,7 +37,12 @@ pub unmoved : {O P : Type 0} (book : OpenBook O P) → Same-table book book
 unmoved book = record { lent = refl; long = refl; free = length-drop (book .resting) (book .table .now) }
 
 pub moved : {O P : Type 0} (book after : OpenBook O P) → name (after .table) ≡ name (book .table) → places after ≡ places book → Same-table book after
-moved book after lent long = record { lent = lent; long = long; free = length-drop (after .resting) (after .table .now) }
+moved book after lent long =
+    record {
+      lent = lent;
+      long = long;
+      free = length-drop (after .resting) (after .table .now) ∙ ap (λ n. n - after .resting) long;
+    }
 
 -- an order is found with what it shows, or none is
 pub order-shown : {O : Type 0} (f : O → Header) (o : Option O) (h : Header) → Some h ≡ mapped f o → (x : O) × (o ≡ Some x) × (f x ≡ h)

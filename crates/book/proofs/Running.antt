@@ -65,7 +65,7 @@ drop-front : {X : Type 0} (xs ys : List X) (m n : ℕ) → length xs ≡ m → d
 drop-front xs ys m n e = sym (drop-drop n m (xs ++ ys)) ∙ ap (drop n) (drop-at xs ys m e)
 
 same-twice : {O P : Type 0} (a b c : OpenBook O P) → Same-table a b → Same-table b c → Same-table a c
-same-twice a b c p q = record { lent = q .lent ∙ p .lent; long = q .long ∙ p .long; free = q .free }
+same-twice a b c p q = record { lent = q .lent ∙ p .lent; long = q .long ∙ p .long; free = q .free ∙ ap (λ n. n - c .resting) (p .long) }
 
 -- the calls so far are those of a day that the book holds; its answers and its fills stand where they should
 pub record Running {O P : Type 0} (kind : Kind O) (rank : Ranking) (calls : List (Call O)) (replies₀ : List (Result Answer BookFault)) (tape₀ : List Fill) (book₀ book : OpenBook O P) (replies : List (Result Answer BookFault)) (tape : List Fill) (used i : ℕ) : Type 0 where

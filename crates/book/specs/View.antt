@@ -16,12 +16,13 @@ view book = record { resting = take (book .resting) (book .table .now); price = 
 abbrev pub places : {O P : Type 0} → OpenBook O P → ℕ
 places book = length (book .table .now)
 
--- the table's places behind the resting orders are free: only their number is said, and nothing depends on what they hold
-abbrev pub Free : {O : Type 0} → List O → ℕ → Type 0
-Free table resting = length (drop resting table) ≡ length table - resting
+-- of all places of the table, those behind the resting orders are free: only their number is said, and nothing depends
+-- on what they hold
+abbrev pub Free : {O : Type 0} → List O → ℕ → ℕ → Type 0
+Free table resting all = length (drop resting table) ≡ all - resting
 
 -- the book is over the same table as before, with as many places
 pub record Same-table {O P : Type 0} (before after : OpenBook O P) : Type 0 where
   pub lent : name (after .table) ≡ name (before .table)
   pub long : places after ≡ places before
-  pub free : Free (after .table .now) (after .resting)
+  pub free : Free (after .table .now) (after .resting) (places before)

@@ -49,7 +49,7 @@ impl<'a, O: Order, P: Priority> OpenBook<'a, O, P> {
         ensures state { λ r. ⌜ view r ≡ new-state ⌝ }
         ensures day { λ r. ⌜ Holds kind r [] ⌝ }
         ensures long { λ r. ⌜ places r ≡ length (now (table .entry)) ⌝ }
-        ensures free { λ r. ⌜ Free (now (r .table)) (r .resting) ⌝ }
+        ensures free { λ r. ⌜ Free (now (r .table)) (r .resting) (length (now (table .entry))) ⌝ }
         ensures lent { λ r. ⌜ name (r .table) ≡ name (table .entry) ⌝ }
     {
         OpenBook {
@@ -177,7 +177,7 @@ impl<'a, O: Order, P: Priority> OpenBook<'a, O, P> {
     pub fn close(self) -> ClosedBook<'a, O>
         ensures resting { λ r. ⌜ resting-orders r ≡ view (self .entry) .resting ⌝ }
         ensures long { λ r. ⌜ length (now (r .table)) ≡ places (self .entry) ⌝ }
-        ensures free { λ r. ⌜ Free (now (r .table)) (r .resting) ⌝ }
+        ensures free { λ r. ⌜ Free (now (r .table)) (r .resting) (places (self .entry)) ⌝ }
         ensures lent { λ r. ⌜ name (r .table) ≡ name (self .entry .table) ⌝ }
     {
         let OpenBook {

@@ -40,7 +40,13 @@ fn order(side: Side, house: u32, folio: u32, volume: u32, quantity: Quantity) ->
     }
 }
 
-fn enter(side: Side, house: u32, folio: u32, volume: u32, quantity: Quantity) -> Call<ClosingOrder> {
+fn enter(
+    side: Side,
+    house: u32,
+    folio: u32,
+    volume: u32,
+    quantity: Quantity,
+) -> Call<ClosingOrder> {
     Call::Enter(order(side, house, folio, volume, quantity))
 }
 
@@ -80,7 +86,12 @@ fn a_closing_day() -> Result<(), Fail> {
     let mut replies = [UNANSWERED; 9];
     let mut tape = [NO_FILL; 16];
     let mut list = [Unfilled { folio: 0, left: 0 }; 4];
-    let DayRun { book, fills } = run_day::<ClosingOrder, ArrivalPriority>(&mut table, &calls, &mut replies, &mut tape);
+    let DayRun { book, fills } = run_day::<ClosingOrder, ArrivalPriority>(
+        &mut table,
+        &calls,
+        &mut replies,
+        &mut tape,
+    );
     let closed = book.close();
     let listed = closed.unfilled(&mut list);
     let _table = closed.end();
@@ -117,7 +128,12 @@ fn arrival_comes_first() -> Result<(), Fail> {
     let mut table = [nothing; 4];
     let mut replies = [UNANSWERED; 4];
     let mut tape = [NO_FILL; 4];
-    let DayRun { book, fills } = run_day::<ClosingOrder, ArrivalPriority>(&mut table, &calls, &mut replies, &mut tape);
+    let DayRun { book, fills } = run_day::<ClosingOrder, ArrivalPriority>(
+        &mut table,
+        &calls,
+        &mut replies,
+        &mut tape,
+    );
     let closed = book.close();
     let _table = closed.end();
     let [f0, f1, ..] = tape;
@@ -134,7 +150,12 @@ fn too_few_replies() -> Result<(), Fail> {
     let mut table = [nothing; 1];
     let mut replies = [UNANSWERED; 1];
     let mut tape = [NO_FILL; 1];
-    let DayRun { book, fills } = run_day::<ClosingOrder, ArrivalPriority>(&mut table, &calls, &mut replies, &mut tape);
+    let DayRun { book, fills } = run_day::<ClosingOrder, ArrivalPriority>(
+        &mut table,
+        &calls,
+        &mut replies,
+        &mut tape,
+    );
     let closed = book.close();
     let _table = closed.end();
     match fills {

@@ -1,6 +1,5 @@
 // The search for the first pair that can trade at a price.
 ghost use mathlib.Core.Path.{_≡_};
-ghost use Prim.Native.Nat.{_<_};
 ghost use Rattle.std.specs.Options.{Cases as BySome};
 ghost use Rattle.base.specs.declared.Side.the-variants.{Buy};
 ghost use Rattle.rules.specs.Pairs.{stands-before, can-trade, Still, First};

@@ -4,7 +4,7 @@ use Prim.Native.Nat.{ℕ, _≤_, _<_, _+_}
 use native.Mathlib.Omega.{arith}
 use borrow.Author.Needs.{needs}
 use lib.ListN.{length, set, take}
-use Rattle.std.proofs.shelf.Lists.{length-push, length-take-le, take-all, take-append-le, take-more-set, take-take}
+use Rattle.std.proofs.shelf.Lists.{length-push, length-take-le, take-all, take-append-le, take-more-set}
 use Rattle.session.proofs.buffer.LineBuffer.push.Needs as need
 
 -- there is a place for the byte
