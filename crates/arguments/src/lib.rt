@@ -1,4 +1,6 @@
 // The arguments INSTRUMENT TYPE of the programs that watch the quotes of one instrument.
+#![tactic(auto)]
+
 use anyhow::anyhow;
 use quotes::board::QuoteBoard;
 use quotes::ticks::SecurityType;

@@ -1,4 +1,6 @@
 // What every layer of the service shares: the two sides of a trade, prices, and what a refusal tells.
+#![tactic(auto)]
+
 ghost use Rattle.std.specs.Prelude.{◌≡◌};
 ghost use Rattle.base.specs.Letters.{side_of};
 ghost use Rattle.base.specs.Price.{price_in_range};

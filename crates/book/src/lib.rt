@@ -1,4 +1,6 @@
 // The book: one security, one day. Open it takes calls; closed it tells what is left.
+#![tactic(auto)]
+
 mod ask;
 pub mod closed;
 pub mod day;

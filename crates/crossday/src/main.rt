@@ -1,4 +1,6 @@
 // crossday: one midpoint book for one day, over lines of standard input; answers on standard output.
+#![tactic(auto)]
+
 use dayrun::desk::Desk;
 use dayrun::run::run_lines;
 use lines::fault::LineFault;

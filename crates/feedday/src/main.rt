@@ -1,5 +1,7 @@
 // feedday INSTRUMENT TYPE: one midpoint book for one day, over lines of orders and quotes on standard input; answers on
 // standard output.
+#![tactic(auto)]
+
 use arguments::{board_of, refuse_arguments};
 use dayrun::desk::Desk;
 use dayrun::run::run_lines;

@@ -1,4 +1,6 @@
 // Two kinds of order, and two priorities.
+#![tactic(auto)]
+
 pub mod closing;
 pub mod midpoint;
 pub mod priorities;

@@ -1,4 +1,6 @@
 // The law of days, for every kind of order, every ranking and any capacity.
+#![tactic(auto)]
+
 ghost use Rattle.law.specs.Outcomes.{OneOutcome};
 ghost use Rattle.rules.specs.Promises.{EveryLawfulDayKeeps};
 

@@ -1,4 +1,6 @@
 // Matching: the first pair of resting orders that can trade, and the sweep that fills pairs until none can.
 // Written once for every kind of order and every priority.
+#![tactic(auto)]
+
 pub mod search;
 pub mod sweep;

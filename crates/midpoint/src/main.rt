@@ -1,5 +1,7 @@
 // midpoint INSTRUMENT TYPE: a recording of Last Quote messages on standard input, the midpoint after each on
 // standard output.
+#![tactic(auto)]
+
 ghost use Rattle.std.specs.Prelude.{◌≤◌, IfOk};
 
 use arguments::{board_of, refuse_arguments};

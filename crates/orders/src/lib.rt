@@ -1,4 +1,6 @@
 // Orders as the book sees them: what every order shows, what a kind of order must answer, and what ranks orders.
+#![tactic(auto)]
+
 pub mod limits;
 pub mod order;
 pub mod priority;

@@ -1,3 +1,5 @@
 // Examples for the crate `tape`, in a crate of their own so that they are not proved again with each of its edits.
+#![tactic(auto)]
+
 #[cfg(test)]
 mod tests;

@@ -1,4 +1,6 @@
 // tapeview: a tape block on standard input, its fills on standard output.
+#![tactic(auto)]
+
 ghost use Rattle.std.specs.Prelude.{◌≤◌, length, IfOk};
 
 use lines::output::OutputLine;

@@ -1,4 +1,6 @@
 // Worked days and examples: what the rules ask for can be met.
+#![tactic(auto)]
+
 ghost use Rattle.worked.specs.LawfulDay.{ALawfulDay};
 
 pub mod examples;
