@@ -38,7 +38,7 @@ pub(crate) fn ask_entry<O: Order>(
     capacity: usize,
     places: usize,
 ) -> Result<(), BookFault>
-    ensures { (st : State O) → length st.resting ≡ resting → st.highest ≡ highest → Asked (entry_questions kind capacity st places order.now) result }
+    ensures { (st : State O) → length st.resting ≡ resting → st.highest ≡ highest → Asked (entry_questions O.kind capacity st places order.now) result }
 {
     let header = order.header();
     ask_party(header.party, highest)?;
@@ -66,7 +66,7 @@ pub(crate) fn ask_cross<O: Order>(
     price: Option<u32>,
     places: usize,
 ) -> Result<u32, BookFault>
-    ensures asked { (st : State O) → st.highest ≡ highest → st.price ≡ price → Asked (cross_questions kind st places party volume) result }
+    ensures asked { (st : State O) → st.highest ≡ highest → st.price ≡ price → Asked (cross_questions O.kind st places party volume) result }
     ensures made { IfOk result (λ p. price ≡ Some p) }
 {
     if let Err(fault) = ask_party(party, highest) {
@@ -90,7 +90,7 @@ pub(crate) fn ask_price<O: Order>(
     resting: usize,
     places: usize,
 ) -> Result<(), BookFault>
-    ensures { (st : State O) → length st.resting ≡ resting → Asked (price_questions kind st places (Some price)) result }
+    ensures { (st : State O) → length st.resting ≡ resting → Asked (price_questions O.kind st places (Some price)) result }
 {
     if !is_price(price) {
         return Err(BookFault::PriceOutOfRange);

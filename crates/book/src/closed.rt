@@ -21,7 +21,7 @@ pub struct ClosedBook<'a, O> {
 impl<'a, O: Order> ClosedBook<'a, O> {
     // Writes the orders that are left, in rising folio, at the list's front, and answers their number.
     pub fn unfilled(&self, list: &mut [Unfilled]) -> Result<usize, BookFault>
-        ensures { Listed kind (resting_orders self.now) list.old list.new result }
+        ensures { Listed O.kind (resting_orders self.now) list.old list.new result }
     {
         let rests = resting_in(self.table, self.resting);
         if list.len() < rests {

@@ -38,7 +38,7 @@ pub fn run_day<'a, O: Order, P: Priority>(
     replies: &mut [Reply],
     tape: &mut [Fill],
 ) -> DayRun<'a, O, P>
-    ensures ran { Ran kind ranking calls.now replies.old tape.old result.book replies.new tape.new result.fills }
+    ensures ran { Ran O.kind P.ranking calls.now replies.old tape.old result.book replies.new tape.new result.fills }
     ensures long { places result.book ≡ length table.old }
     ensures lent { result.book.table.ghost_name ≡ table.entry.ghost_name }
 {

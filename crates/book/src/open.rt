@@ -35,7 +35,7 @@ impl<'a, O: Order, P: Priority> OpenBook<'a, O, P> {
     // A new book over the table: nothing rests, no price is in force, and the highest folio is 0.
     pub fn new(table: &'a mut [O]) -> OpenBook<'a, O, P>
         ensures state { view result ≡ new_state }
-        ensures day { Holds kind result [] }
+        ensures day { Holds O.kind result [] }
         ensures long { places result ≡ length table.old }
         ensures free { Free result.table.now result.resting (length table.old) }
         ensures lent { result.table.ghost_name ≡ table.entry.ghost_name }
@@ -59,7 +59,7 @@ impl<'a, O: Order, P: Priority> OpenBook<'a, O, P> {
 
     // Adds the order and sweeps at the price in force. Answers how many fills that made.
     pub fn enter(&mut self, order: O, tape: &mut [Fill]) -> Result<usize, BookFault>
-        ensures called { Called kind ranking self.old (Enter order) (length tape.old) (fills_outcome result tape.new) self.new }
+        ensures called { Called O.kind P.ranking self.old (Enter order) (length tape.old) (fills_outcome result tape.new) self.new }
         ensures tape { FillsAtFront result tape.old tape.new }
         ensures table { SameTable self.old self.new }
     {
@@ -77,14 +77,14 @@ impl<'a, O: Order, P: Priority> OpenBook<'a, O, P> {
     }
     // What the resting order with the folio shows.
     fn shown(&self, folio: u32) -> Option<Header>
-        ensures { result ≡ option_map kind.header (order_of kind folio (view self.now).resting) }
+        ensures { result ≡ option_map O.kind.header (order_of O.kind folio (view self.now).resting) }
     {
         find_folio(self.table, self.rests(), folio)
     }
 
     // Takes the house's order with the folio out. Answers the volume that it had left.
     pub fn cancel(&mut self, party: Party) -> Result<u32, BookFault>
-        ensures called { (tape : ℕ) → Called kind ranking self.old (Cancel party) tape (cancel_outcome result) self.new }
+        ensures called { (tape : ℕ) → Called O.kind P.ranking self.old (Cancel party) tape (cancel_outcome result) self.new }
         ensures table { SameTable self.old self.new }
     {
         let resting = self.rests();
@@ -101,7 +101,7 @@ impl<'a, O: Order, P: Priority> OpenBook<'a, O, P> {
 
     // Puts a price in force, or none, and sweeps at it. Answers how many fills that made.
     pub fn set_price(&mut self, price: Option<u32>, tape: &mut [Fill]) -> Result<usize, BookFault>
-        ensures called { Called kind ranking self.old (Price price) (length tape.old) (fills_outcome result tape.new) self.new }
+        ensures called { Called O.kind P.ranking self.old (Price price) (length tape.old) (fills_outcome result tape.new) self.new }
         ensures tape { FillsAtFront result tape.old tape.new }
         ensures table { SameTable self.old self.new }
     {
@@ -126,7 +126,7 @@ impl<'a, O: Order, P: Priority> OpenBook<'a, O, P> {
         volume: u32,
         tape: &mut [Fill],
     ) -> Result<usize, BookFault>
-        ensures called { Called kind ranking self.old (Cross party volume) (length tape.old) (fills_outcome result tape.new) self.new }
+        ensures called { Called O.kind P.ranking self.old (Cross party volume) (length tape.old) (fills_outcome result tape.new) self.new }
         ensures tape { FillsAtFront result tape.old tape.new }
         ensures table { SameTable self.old self.new }
     {
@@ -146,10 +146,10 @@ impl<'a, O: Order, P: Priority> OpenBook<'a, O, P> {
     // Makes a call, whichever it is. For every lawful day that the book holds, the day goes on by this call: it stays
     // lawful, the book holds it, and every promise is kept throughout it.
     pub fn apply(&mut self, call: Call<O>, tape: &mut [Fill]) -> Result<Answer, BookFault>
-        ensures called { Called kind ranking self.old call (length tape.old) (outcome result tape.new) self.new }
+        ensures called { Called O.kind P.ranking self.old call (length tape.old) (outcome result tape.new) self.new }
         ensures tape { TapeAfter result tape.old tape.new }
         ensures table { SameTable self.old self.new }
-        ensures day { (day : Day O) → Holds kind self.old day → GoesOn kind self.new (event ranking call (length tape.old) (outcome result tape.new)) day }
+        ensures day { (day : Day O) → Holds O.kind self.old day → GoesOn O.kind self.new (event P.ranking call (length tape.old) (outcome result tape.new)) day }
     {
         match call {
             Call::Enter(order) => fills_answer(self.enter(order, tape)),

@@ -24,7 +24,7 @@ pub(crate) fn resting_in<O: Order>(table: &[O], resting: usize) -> usize
 // What the resting order with the folio shows.
 pub(crate) fn find_folio<O: Order>(table: &[O], resting: usize, folio: u32) -> Option<Header>
     requires { resting ≤ length table.now }
-    ensures { result ≡ option_map kind.header (order_of kind folio (take resting table.now)) }
+    ensures { result ≡ option_map O.kind.header (order_of O.kind folio (take resting table.now)) }
 {
     for place in 0..resting {
         let header = table[place].header();
@@ -38,7 +38,7 @@ pub(crate) fn find_folio<O: Order>(table: &[O], resting: usize, folio: u32) -> O
 // Takes the order with the folio out and closes up. Answers how many then rest.
 pub(crate) fn remove_folio<O: Order>(table: &mut [O], resting: usize, folio: u32) -> usize
     requires { resting ≤ length table.old }
-    ensures front { take result table.new ≡ filter (other_folio kind folio) (take resting table.old) }
+    ensures front { take result table.new ≡ filter (other_folio O.kind folio) (take resting table.old) }
     ensures bound { result ≤ resting }
 {
     let mut end = 0;
@@ -61,7 +61,7 @@ pub(crate) fn sweep_at<O: Order, P: Priority>(
 ) -> Swept
     requires within { resting ≤ length table.old }
     requires room { OnSome price (resting - 1 ≤ length tape.old) }
-    ensures { SweptAt kind ranking price (take resting table.old) tape.old table.new tape.new result }
+    ensures { SweptAt O.kind P.ranking price (take resting table.old) tape.old table.new tape.new result }
 {
     let Some(price) = price else {
         return Swept { fills: 0, resting };
@@ -82,7 +82,7 @@ pub(crate) fn admit<O: Order, P: Priority>(
 ) -> Swept
     requires within { resting < length table.old }
     requires room { resting ≤ length tape.old }
-    ensures { SweptAt kind ranking price (take resting table.old ++ (order ∷ [])) tape.old table.new tape.new result }
+    ensures { SweptAt O.kind P.ranking price (take resting table.old ++ (order ∷ [])) tape.old table.new tape.new result }
 {
     table[resting] = order;
     sweep_at::<O, P>(table, resting + 1, price, tape)
@@ -92,7 +92,7 @@ pub(crate) fn admit<O: Order, P: Priority>(
 pub(crate) fn write_unfilled<O: Order>(table: &[O], resting: usize, list: &mut [Unfilled])
     requires within { resting ≤ length table.now }
     requires room { resting ≤ length list.old }
-    ensures front { take resting list.new ≡ map (unfilled_of kind) (take resting table.now) }
+    ensures front { take resting list.new ≡ map (unfilled_of O.kind) (take resting table.now) }
     ensures behind { drop resting list.new ≡ drop resting list.old }
 {
     for place in 0..resting {

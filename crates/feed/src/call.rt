@@ -20,7 +20,7 @@ pub fn feed<'b, O: Order, P: Priority>(
     bytes: &'b [u8],
     tape: &mut [Fill],
 ) -> Result<(usize, &'b [u8]), QuoteFault>
-    ensures { Feeds kind ranking bytes.now board.old board.new book.old book.new tape.old tape.new result }
+    ensures { Feeds O.kind P.ranking bytes.now board.old board.new book.old book.new tape.old tape.new result }
 {
     let copy = match board.lay(bytes) {
         Ok(quotes) => quotes,

@@ -21,7 +21,7 @@ struct Candidate {
 // Does the first of two stand before the second? One that trades within its house stands before one that does not;
 // between two alike the priority decides.
 fn stands_before<P: Priority>(own_a: bool, a: &Header, own_b: bool, b: &Header) -> bool
-    ensures { result ≡ own_first own_a own_b (ranking.before a.now b.now) }
+    ensures { result ≡ own_first own_a own_b (P.ranking.before a.now b.now) }
 {
     if own_a == own_b {
         P::before(a, b)
@@ -38,10 +38,10 @@ fn would_trade<O: Order>(
     sell_header: &Header,
     price: u32,
 ) -> bool
-    requires buy_shows { buy_header.now ≡ kind.header buy.now }
+    requires buy_shows { buy_header.now ≡ O.kind.header buy.now }
     requires is_buy { buy_header.now.side ≡ Buy }
-    requires sell_shows { sell_header.now ≡ kind.header sell.now }
-    ensures { result ≡ can_trade kind price buy.now sell.now }
+    requires sell_shows { sell_header.now ≡ O.kind.header sell.now }
+    ensures { result ≡ can_trade O.kind price buy.now sell.now }
 {
     match sell_header.side {
         Side::Buy => false,
@@ -54,7 +54,7 @@ fn would_trade<O: Order>(
 
 // Is this sell better for the buy than the best so far?
 fn is_better<P: Priority>(buy: &Header, sell: &Header, best: &Option<(usize, Header)>) -> bool
-    ensures { result ≡ better ranking buy.now sell.now best.now }
+    ensures { result ≡ better P.ranking buy.now sell.now best.now }
 {
     match best {
         None => true,
@@ -73,9 +73,9 @@ fn first_sell<O: Order, P: Priority>(
     header: &Header,
     price: u32,
 ) -> Option<(usize, Header)>
-    requires shows { header.now ≡ kind.header buy.now }
+    requires shows { header.now ≡ O.kind.header buy.now }
     requires is_buy { header.now.side ≡ Buy }
-    ensures { FirstSell kind ranking price table.now buy.now result }
+    ensures { FirstSell O.kind P.ranking price table.now buy.now result }
 {
     let mut best = None;
     for (place, sell) in table.iter().enumerate() {
@@ -94,7 +94,7 @@ fn row_pair<O: Order, P: Priority>(
     order: &O,
     price: u32,
 ) -> Option<Candidate>
-    ensures { RowPair kind ranking price table.now place order.now result }
+    ensures { RowPair O.kind P.ranking price table.now place order.now result }
 {
     let buyer = order.header();
     if let Side::Sell = buyer.side {
@@ -113,7 +113,7 @@ fn row_pair<O: Order, P: Priority>(
 
 // The better of the best so far and the pair of a later row.
 fn better_pair<P: Priority>(best: Option<Candidate>, row: Option<Candidate>) -> Option<Candidate>
-    ensures { result ≡ chosen ranking best row }
+    ensures { result ≡ chosen P.ranking best row }
 {
     let Some(new) = row else {
         return best;
@@ -132,7 +132,7 @@ fn better_pair<P: Priority>(best: Option<Candidate>, row: Option<Candidate>) -> 
 
 // The first pair of the table that can trade at the price, as two places, the buy's first.
 pub fn find_pair<O: Order, P: Priority>(table: &[O], price: u32) -> Option<(usize, usize)>
-    ensures { MatchOption result (Still kind price table.now) (λ p. (b : O) × (s : O) × First kind ranking price table.now p.0 p.1 b s) }
+    ensures { MatchOption result (Still O.kind price table.now) (λ p. (b : O) × (s : O) × First O.kind P.ranking price table.now p.0 p.1 b s) }
 {
     let mut best = None;
     for (place, order) in table.iter().enumerate() {

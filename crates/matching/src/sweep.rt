@@ -18,7 +18,7 @@ pub struct Swept {
 
 // The order after a fill: reduced by the fill's volume if it is one of the two.
 fn after_fill<O: Order>(order: &O, fill: &Fill) -> O
-    ensures { result ≡ after_fill kind fill.now order.now }
+    ensures { result ≡ after_fill O.kind fill.now order.now }
 {
     let header = order.header();
     let party = match header.side {
@@ -35,7 +35,7 @@ fn after_fill<O: Order>(order: &O, fill: &Fill) -> O
 // Reduces both orders of a fill, and closes up where one has nothing left. Answers how many then rest.
 fn settle<O: Order>(table: &mut [O], resting: usize, fill: &Fill) -> usize
     requires { resting ≤ length table.old }
-    ensures front { take result table.new ≡ settled kind fill.now (take resting table.old) }
+    ensures front { take result table.new ≡ settled O.kind fill.now (take resting table.old) }
     ensures bound { result ≤ resting }
 {
     let mut end = 0;
@@ -56,7 +56,7 @@ fn fill_first<O: Order, P: Priority>(
     price: u32,
 ) -> Option<(Fill, usize)>
     requires { resting ≤ length table.old }
-    ensures { FillsFirst kind ranking price (take resting table.old) table.old table.new result }
+    ensures { FillsFirst O.kind P.ranking price (take resting table.old) table.old table.new result }
 {
     let (buy, sell) = match find_pair::<O, P>(&table[0..resting], price) {
         None => return None,
@@ -82,7 +82,7 @@ pub fn sweep<O: Order, P: Priority>(
     price: u32,
     tape: &mut [Fill],
 ) -> Option<Swept>
-    ensures { SweepsTo kind ranking price (take resting table.old) table.old tape.old table.new tape.new result }
+    ensures { SweepsTo O.kind P.ranking price (take resting table.old) table.old tape.old table.new tape.new result }
 {
     let mut rests = resting.min(table.len());
     if tape.len() < rests.saturating_sub(1) {

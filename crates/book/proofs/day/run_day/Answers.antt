@@ -22,11 +22,11 @@ loop-place-preserved g c =
     c.loop-place.used
     c.loop-place.place
     (length c.args.tape.now)
-    c.fills-told-used.result
+    c.fills_told-used.result
     _
     c.apply-reply.result
     refl
-    c.fills-told-used.ensures
+    c.fills_told-used.ensures
     run
     c.loop-place-test.true
     (omega (arith, run.replies_long))

@@ -6,8 +6,8 @@ use Rattle.lines.proofs.numbers.decimal_of.Goals.{else-digits-gt1-via-then-digit
 pub returns-then-digits-eq48 : goal.returns-then-digits-eq48
 returns-then-digits-eq48 c = leading_zero c.args.digits.now c.if-digits-gt1.true c.if-digits-eq48.true
 
-pub returns-in-default : goal.returns-in-default
-returns-in-default c n small e = c.in-default.ensures.cases.0 (digits_utf8 c.args.digits.now c.requires)
+pub returns-in_default : goal.returns-in_default
+returns-in_default c n small e = c.in_default.ensures.cases.0 (digits_utf8 c.args.digits.now c.requires)
 
 pub returns-in-Ok-parse : goal.returns-in-Ok-parse
 returns-in-Ok-parse c =

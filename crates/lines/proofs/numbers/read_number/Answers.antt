@@ -7,8 +7,8 @@ returns-in-Some c =
     let bytes = c.args.bytes.now in
     let some : 0 < length bytes = search rules in
     let space : get_or bytes 0 0 ≡ 32 = search rules in
-    let cut = c.split-digits.ensures in
-    let rest = c.split-digits.result.1.now in
+    let cut = c.split_digits.ensures in
+    let rest = c.split_digits.result.1.now in
     let is : take (length bytes - 1) (drop 1 bytes) ≡ decimal c.in-Some.n ++ rest = cut.whole ∙ ap (λ (l : List ℕ). l ++ rest) c.in-Some.ensures in
     (first_of bytes 32 some space ∙ ap (λ (l : List ℕ). 32 ∷ l) is, cut.stops)
 
@@ -17,9 +17,9 @@ returns-in-None c n behind small stops e =
     let bytes = c.args.bytes.now in
     let some : 0 < length bytes = search rules in
     let space : get_or bytes 0 0 ≡ 32 = search rules in
-    let cut = c.split-digits.ensures in
-    let ds = c.split-digits.result.0.now in
-    let rest = c.split-digits.result.1.now in
+    let cut = c.split_digits.ensures in
+    let ds = c.split_digits.result.0.now in
+    let rest = c.split_digits.result.1.now in
     let whole = cut.whole in
     let split = first_of bytes 32 some space in
     let same : ds ++ rest ≡ decimal n ++ behind = cc in

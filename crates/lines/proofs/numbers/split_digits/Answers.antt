@@ -6,9 +6,9 @@ use Rattle.lines.proofs.numbers.split_digits.Goals as goal
 pub returns : goal.returns
 returns c =
     let bytes = c.args.bytes.now in
-    let count = c.digits-at-front.result in
-    let cut = c.split-at.ensures in
-    let told = c.digits-at-front.ensures in
+    let count = c.digits_at_front.result in
+    let cut = c.split_at.ensures in
+    let told = c.digits_at_front.ensures in
     let first = rw (add-zero count) at (cut.by_index.2 0 0) in
     record {
       whole = cut.by_index.0;

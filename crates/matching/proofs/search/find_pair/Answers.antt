@@ -15,7 +15,7 @@ loop-place-preserved g c =
     let n = c.loop-place.place in
     subst
     (λ (r : Option Candidate). FirstOf kind rank c.args.price xs (n + 1) r)
-    (sym c.better-pair-best.ensures)
+    (sym c.better_pair-best.ensures)
     (row_more kind rank c.args.price xs n c.index-table-place.result c.loop-place.best c.row-pair.result (c.loop-place-test.true, c.index-table-place.is) c.row-pair.ensures c.loop-place.invariant)
 
 pub returns-in-None : goal.returns-in-None

@@ -1,7 +1,7 @@
 use Rattle.std.proofs.Common.{true, false, sym, ◌∙◌, inl, inr}
 use Rattle.matching.proofs.Rows.{passed_more, taken_more, first_of_all, better_is}
 use Rattle.matching.proofs.search.first_sell.Goals as goal
-use Rattle.matching.proofs.search.first_sell.Goals.{then-would-trade+then-is-better, else-would-trade, else-would-trade-via-then-would-trade+else-is-better, else-would-trade-via-else-would-trade}
+use Rattle.matching.proofs.search.first_sell.Goals.{then-would_trade+then-is_better, else-would_trade, else-would_trade-via-then-would_trade+else-is_better, else-would_trade-via-else-would_trade}
 
 pub loop-place-preserved : goal.loop-place-preserved
 loop-place-preserved g c =
@@ -14,15 +14,15 @@ loop-place-preserved g c =
     let best = c.loop-place.best in
     let within = c.loop-place-test.true in
     let read = c.index-table-place.is in
-    let would = c.would-trade.ensures in
-    elim c.if-would-trade.branch [
-      | then-would-trade+then-is-better w ↦
-          taken_more kind rank c.args.price buy xs i x c.header-shown.result best c.if-would-trade.best within read c.header-shown.ensures w.best-is c.loop-place.invariant (sym would ∙ w.if-would-trade.true) (better_is kind rank c.args.price buy c.args.header.now c.header-shown.result x best w.is-better.result true c.requires.shows c.header-shown.ensures w.is-better.ensures w.if-is-better.true)
-      | else-would-trade w ↦ elim w.else-would-trade.branch [
-        | else-would-trade-via-then-would-trade+else-is-better w' ↦
-            passed_more kind rank c.args.price buy xs i x best c.if-would-trade.best within read w.best-is c.loop-place.invariant (inr (better_is kind rank c.args.price buy c.args.header.now c.header-shown.result x best w'.is-better.result false c.requires.shows c.header-shown.ensures w'.is-better.ensures w'.if-is-better.false))
-        | else-would-trade-via-else-would-trade w' ↦
-            passed_more kind rank c.args.price buy xs i x best c.if-would-trade.best within read w.best-is c.loop-place.invariant (inl (sym would ∙ w'.if-would-trade.false))
+    let would = c.would_trade.ensures in
+    elim c.if-would_trade.branch [
+      | then-would_trade+then-is_better w ↦
+          taken_more kind rank c.args.price buy xs i x c.header-shown.result best c.if-would_trade.best within read c.header-shown.ensures w.best-is c.loop-place.invariant (sym would ∙ w.if-would_trade.true) (better_is kind rank c.args.price buy c.args.header.now c.header-shown.result x best w.is_better.result true c.requires.shows c.header-shown.ensures w.is_better.ensures w.if-is_better.true)
+      | else-would_trade w ↦ elim w.else-would_trade.branch [
+        | else-would_trade-via-then-would_trade+else-is_better w' ↦
+            passed_more kind rank c.args.price buy xs i x best c.if-would_trade.best within read w.best-is c.loop-place.invariant (inr (better_is kind rank c.args.price buy c.args.header.now c.header-shown.result x best w'.is_better.result false c.requires.shows c.header-shown.ensures w'.is_better.ensures w'.if-is_better.false))
+        | else-would_trade-via-else-would_trade w' ↦
+            passed_more kind rank c.args.price buy xs i x best c.if-would_trade.best within read w.best-is c.loop-place.invariant (inl (sym would ∙ w'.if-would_trade.false))
       ]
     ]
 

@@ -18,9 +18,9 @@ loop-place-preserved g c =
     let i = c.loop-place.place in
     let k = c.loop-place.end in
     let x = c.index-table-place.result in
-    let y = c.after-fill-order.result in
+    let y = c.after_fill-order.result in
     let below : i < length xs = omega (arith, c.loop-place-test.true, c.requires) in
-    let changed : y ≡ change x = c.after-fill-order.ensures ∙ ap change (sym c.index-table-place.is) in
+    let changed : y ≡ change x = c.after_fill-order.ensures ∙ ap change (sym c.index-table-place.is) in
     -- what is left of the order after the fill
     let shown : c.header.result.left ≡ (kind.header (change x)).left =
     ap (λ h. h.left) c.header.ensures ∙ ap (λ o. (kind.header o).left) changed in

@@ -24,7 +24,7 @@ pub returns : goal.returns
 returns c =
     let rest = take_rest c.args.bytes.now 24 in
     let long : 24 ≤ length c.args.bytes.now = search rules in
-    let fi : SFits w32 c.from-be-bytes.result = search rules in
-    let fv : SFits w64 c.from-be-bytes-2.result = search rules in
-    let fp : SFits w64 c.from-be-bytes-3.result = search rules in
-    (is_fields c.args.bytes.now _ _ _ fi fv fp c.from-be-bytes.ensures c.from-be-bytes-2.ensures c.from-be-bytes-3.ensures, cc, simp (rest, length-drop) (omega arith))
+    let fi : SFits w32 c.from_be_bytes.result = search rules in
+    let fv : SFits w64 c.from_be_bytes-2.result = search rules in
+    let fp : SFits w64 c.from_be_bytes-3.result = search rules in
+    (is_fields c.args.bytes.now _ _ _ fi fv fp c.from_be_bytes.ensures c.from_be_bytes-2.ensures c.from_be_bytes-3.ensures, cc, simp (rest, length-drop) (omega arith))

@@ -7,6 +7,6 @@ returns c =
     let buyer = c.args.buyer in
     let seller = c.args.seller in
     fill_who c.args.out.now _ _ _ buyer.folio seller.folio buyer.house seller.house c.requires
-    c.put-two.ensures
-    (c.copy-from-slice.ensures.after ∙ c.low-bytes.ensures)
-    (c.copy-from-slice-2.ensures.after ∙ c.low-bytes-2.ensures)
+    c.put_two.ensures
+    (c.copy_from_slice.ensures.after ∙ c.low_bytes.ensures)
+    (c.copy_from_slice-2.ensures.after ∙ c.low_bytes-2.ensures)

@@ -8,8 +8,8 @@ pub returns : goal.returns
 returns c =
     let fs = c.args.fills.now in
     let before = c.args.buffer.now in
-    let who = c.in-ok-judge.ensures in
-    let what = c.in-ok-judge-2.ensures in
+    let who = c.in_ok-judge.ensures in
+    let what = c.in_ok-judge-2.ensures in
     let few : length fs ≤ most_fills = search rules in
     let room : block_length (length fs) ≤ length before = omega (arith, c.if-buffer-end.false) in
     block_written fs few who what before _ _ _ _ _ _
@@ -18,6 +18,6 @@ returns c =
     (omega (arith, room))
     (omega arith)
     (omega arith)
-    c.put-two.ensures
-    c.write-whos.ensures
-    c.write-whats.ensures
+    c.put_two.ensures
+    c.write_whos.ensures
+    c.write_whats.ensures

@@ -5,7 +5,7 @@ use Rattle.tape.proofs.writing.write_whats.Goals as goal
 
 pub loop-fill-preserved : goal.loop-fill-preserved
 loop-fill-preserved c =
-    written_more what_entry 8 (λ f. refl) c.args.fills.now c.loop-fill.part _ c.loop-fill.fill _ _ c.loop-fill.invariant c.loop-fill-test.true c.put-two.ensures
+    written_more what_entry 8 (λ f. refl) c.args.fills.now c.loop-fill.part _ c.loop-fill.fill _ _ c.loop-fill.invariant c.loop-fill-test.true c.put_two.ensures
     (omega (arith, c.loop-fill.auto.part, c.requires.long, c.loop-fill-test.true))
 
 pub returns : goal.returns

@@ -52,18 +52,18 @@ returns-in-Price g c =
     g.O.Order.kind
     g.P.Priority.ranking
     c.args.self.now
-    c.set-price.new.self
+    c.set_price.new.self
     c.args.call
     (Price c.in-Price.price)
     c.args.tape.now
-    c.set-price.new.tape
-    c.set-price.result
-    c.fills-answer-in-Price.result
+    c.set_price.new.tape
+    c.set_price.result
+    c.fills_answer-in-Price.result
     c.in-Price.is
-    c.fills-answer-in-Price.ensures
-    c.set-price.ensures.called
-    c.set-price.ensures.tape
-    c.set-price.ensures.table
+    c.fills_answer-in-Price.ensures
+    c.set_price.ensures.called
+    c.set_price.ensures.tape
+    c.set_price.ensures.table
     in
     record { called = a.called; tape = a.tape; table = a.table; day = a.day }
 
@@ -80,9 +80,9 @@ returns-in-Cross g c =
     c.args.tape.now
     c.cross.new.tape
     c.cross.result
-    c.fills-answer-in-Cross.result
+    c.fills_answer-in-Cross.result
     c.in-Cross.is
-    c.fills-answer-in-Cross.ensures
+    c.fills_answer-in-Cross.ensures
     c.cross.ensures.called
     c.cross.ensures.tape
     c.cross.ensures.table

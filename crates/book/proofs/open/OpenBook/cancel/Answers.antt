@@ -3,11 +3,11 @@ use Rattle.rules.specs.Calls.{other_folio}
 use Rattle.book.proofs.Made.{accepted_cancel, foreign_cancel, moved, unknown_cancel, unmoved}
 use Rattle.book.proofs.open.OpenBook.cancel.Goals as goal
 
-pub returns-in-default : goal.returns-in-default
-returns-in-default g c =
+pub returns-in_default : goal.returns-in_default
+returns-in_default g c =
     let book = c.args.self.now in
     record {
-      called = λ tape. unknown_cancel g.O.Order.kind g.P.Priority.ranking book tape c.args.party c.in-default.ensures;
+      called = λ tape. unknown_cancel g.O.Order.kind g.P.Priority.ranking book tape c.args.party c.in_default.ensures;
       table = unmoved book;
     }
 
@@ -23,7 +23,7 @@ pub returns : goal.returns
 returns g c =
     let kind = g.O.Order.kind in
     let book = c.args.self.now in
-    let rests = c.remove-folio-rests.ensures.front ∙ ap (filter (other_folio kind c.args.party.folio)) c.rests-resting.ensures.front in
+    let rests = c.remove_folio-rests.ensures.front ∙ ap (filter (other_folio kind c.args.party.folio)) c.rests-resting.ensures.front in
     record {
       called = λ tape. accepted_cancel kind g.P.Priority.ranking book tape c.args.party c.in-Some.header _ c.in-Some.ensures c.if-header-party.false rests refl refl;
       table = moved book _ refl (omega arith);

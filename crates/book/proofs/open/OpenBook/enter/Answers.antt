@@ -18,7 +18,7 @@ returns-in-Err g c =
 pub admit-done-requires : goal.admit-done-requires
 admit-done-requires g c =
     let book = c.args.self.now in
-    let asked = c.in-default.ensures (view book) (sym c.rests-resting.ensures.value) refl in
+    let asked = c.in_default.ensures (view book) (sym c.rests-resting.ensures.value) refl in
     let free = room g.O.Order.kind c.min-capacity.result (view book) (length c.args.tape.now) c.args.order asked in
     let n = c.rests-resting.ensures.value in
     let cap = c.min-capacity.ensures in
@@ -29,7 +29,7 @@ returns g c =
     let kind = g.O.Order.kind in
     let rank = g.P.Priority.ranking in
     let book = c.args.self.now in
-    let asked = c.in-default.ensures (view book) (sym c.rests-resting.ensures.value) refl in
+    let asked = c.in_default.ensures (view book) (sym c.rests-resting.ensures.value) refl in
     let done = c.admit-done.ensures in
     let o = c.args.order in
     let swept = subst (λ (xs : List g.row.O.Denot). Swept kind rank book.price (xs ++ (o ∷ [])) (take c.admit-done.result.fills c.admit-done.new.tape) (take c.admit-done.result.resting c.admit-done.new.table)) c.rests-resting.ensures.front done.swept in

@@ -3,13 +3,14 @@ use Rattle.quotes.specs.Board.{Rows, all_ticked}
 use Rattle.quotes.proofs.Ticked.{laid_ticked}
 use Rattle.quotes.proofs.board.Quotes.with_update.Goals as goal
 
-pub invariant-of-result : goal.invariant-of-result
-invariant-of-result c =
+pub invariant_of-result : goal.invariant_of-result
+invariant_of-result c =
     let q = c.args.self in
-    let u = c.args.update in (
-      subst
+    let u = c.args.update in
+    record {
+      sound =
+          subst
           (λ (rows : Rows). all_ticked q.security rows ≡ true)
-          (sym c.with-quote-rows.ensures)
-          (laid_ticked q.security q.rows u.origin u.side u.quote q.sound c.requires),
-      tt,
-    )
+          (sym c.with_quote-rows.ensures)
+          (laid_ticked q.security q.rows u.origin u.side u.quote q.sound c.requires);
+    }
