@@ -16,7 +16,7 @@ loop-place-preserved g c =
     subst
     (λ (r : Option Candidate). FirstOf kind rank c.args.price xs (n + 1) r)
     (sym c.better_pair-best.ensures)
-    (row_more kind rank c.args.price xs n c.index-table-place.result c.loop-place.best c.row-pair.result (c.loop-place-test.true, c.index-table-place.is) c.row-pair.ensures c.loop-place.invariant)
+    (row_more kind rank c.args.price xs n c.index-table-place.result c.loop-place.best c.row_pair.result (c.loop-place-test.true, c.index-table-place.is) c.row_pair.ensures c.loop-place.invariant)
 
 pub returns-in-None : goal.returns-in-None
 returns-in-None g c =
