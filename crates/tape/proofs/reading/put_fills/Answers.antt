@@ -1,4 +1,4 @@
-use Rattle.std.proofs.Common.{◌≡◌, ◌+◌, [], ◌∷◌, ◌++◌, map, drop, sym, ap, ◌∙◌, arith}
+use Rattle.std.proofs.Common.{◌≡◌, ℕ, ◌+◌, [], ◌∷◌, ◌++◌, map, take, drop, sym, ap, ◌∙◌, subst, arith}
 use Rattle.std.specs.List.{range_with_len}
 use Rattle.std.proofs.lemmas.List.FromFn.{map-range_with_len_more}
 use Rattle.std.proofs.lemmas.List.{drop-drop, drop-set-lt, take_more_set}
@@ -24,7 +24,9 @@ loop-fill-preserved c =
 pub returns : goal.returns
 returns c =
     let all : c.loop-fill.fill ≡ c.args.count = omega (arith, c.loop-fill-test.false, c.loop-fill.auto.fill-end) in
+    let f = fill_at c.args.bytes.now c.args.count in
+    let list = c.loop-fill.list in
     record {
-      front = rw (← all) c.loop-fill.invariant.0;
-      behind = rw (← all) c.loop-fill.invariant.1;
+      front = subst (λ (k : ℕ). take k list ≡ map f (range_with_len 0 k)) all c.loop-fill.invariant.0;
+      behind = subst (λ (k : ℕ). drop k list ≡ drop k c.args.list.now) all c.loop-fill.invariant.1;
     }
