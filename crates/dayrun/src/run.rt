@@ -101,10 +101,10 @@ fn answer_lines<D: Desk, R: Read, W: Write + Drop>(
 // The whole day: every line is applied by the desk and answered, then the book is closed, and what is left is listed.
 // The book is closed and ended also where input or output fails; nothing is listed then.
 pub fn run_lines<D: Desk>(desk: &mut D, rt: &HostRuntime) -> io::Result<()> {
+    let mut output = BufWriter::new(rt.alloc(), rt.stdout())?;
     let mut table = [NO_ORDER; PLACES];
     let mut book: MidpointBook<'_> = OpenBook::new(&mut table);
     let mut source = rt.stdin();
-    let mut output = BufWriter::new(rt.alloc(), rt.stdout())?;
     let answered = answer_lines(desk, &mut book, &mut source, &mut output);
     let closed = book.close();
     let ended = match answered {

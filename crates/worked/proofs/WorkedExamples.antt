@@ -14,7 +14,7 @@ use Rattle.quotes.specs.Board.{half_sum}
 use Rattle.quotes.specs.Message.{clears, fields, message_questions, tick_price}
 use Rattle.law.proofs.Asked.{Numbered, accepted_yes, all_yes}
 use Rattle.law.proofs.Outcomes.{one_outcome}
-use Rattle.worked.specs.Examples.{AllOrNone, AnyComesTo, EmptyBlock, EntryNeedsThree, EquityTicks, MidpointOfTheBest, MinimumIsForOneFill, OwnHouseFirst, PriceNeedsTwo, RefusedFolioLeavesLower, TapeOfTwo, ThreeSwept, WorkedExamples, three_orders, too_small_apart, two_fills}
+use Rattle.worked.specs.Examples.{TakesAllOrNone, AnyComesTo, EmptyBlock, EntryNeedsThree, EquityTicks, MidpointOfTheBest, MinimumIsForOneFill, OwnHouseFirst, PriceNeedsTwo, RefusedFolioLeavesLower, TapeOfTwo, ThreeSwept, WorkedExamples, three_orders, too_small_apart, two_fills}
 use Rattle.worked.specs.LawfulDay.{buy, buy_101, buy_101_left, midpoint as midpoint_price, order_with, party, sell}
 use Rattle.worked.proofs.Decided.{ends_by_check, fills_by_check, folios_differ_by_check, still_by_check}
 
@@ -53,7 +53,7 @@ minimum_is_for_one_fill = (
 empty_block : EmptyBlock
 empty_block = (refl, refl, refl, refl)
 
-all_or_none : AllOrNone
+all_or_none : TakesAllOrNone
 all_or_none side p entered price = (refl, refl)
 
 -- the pair of house 6 first, then what is left of the sell with the other buy

@@ -116,8 +116,8 @@ all_of_300 side p entered =
     record { header = record { side = side; party = p; entered = entered; left = 300 }; quantity = AllOrNone }
 
 -- Such an order takes 300 and not 299, at any price, on either side and whatever was entered.
-abbrev pub AllOrNone : Type 0
-AllOrNone =
+abbrev pub TakesAllOrNone : Type 0
+TakesAllOrNone =
     (side : Side) (p : Party) (entered price : ℕ)
     → (closing_kind.takes (all_of_300 side p entered) 300 price ≡ true)
     × (closing_kind.takes (all_of_300 side p entered) 299 price ≡ false)
@@ -210,7 +210,7 @@ pub record WorkedExamples : Type 0 where
   pub equity_ticks : EquityTicks
   pub minimum_is_for_one_fill : MinimumIsForOneFill
   pub empty_block : EmptyBlock
-  pub all_or_none : AllOrNone
+  pub all_or_none : TakesAllOrNone
   pub own_house_first : OwnHouseFirst
   pub tape_of_two : TapeOfTwo
   pub refused_folio_leaves_lower : RefusedFolioLeavesLower
