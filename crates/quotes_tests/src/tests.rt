@@ -258,7 +258,7 @@ fn the_bytes_behind(rt: HostRuntime) -> Result<(), Fail> {
     match read_message(&TWO_BEHIND, INSTRUMENT, SecurityType::Equity) {
         Ok((update, rest)) => {
             assert_eq!(rt; update.quote, Some(245_000));
-            assert_eq!(rt; rest, &[7, 8]);
+            assert_eq!(rt; rest, [7, 8].as_slice());
             Ok(())
         }
         Err(_) => Err(Fail::new("refused")),
