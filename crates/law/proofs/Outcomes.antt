@@ -5,11 +5,12 @@ use Rattle.orders.specs.declared.trade.Fill.{Fill}
 use Rattle.orders.specs.declared.trade.Header.{Header}
 use Rattle.orders.specs.Kind.{Kind}
 use Rattle.orders.specs.Ranking.{Ranking}
-use Rattle.rules.specs.Pairs.{First, Place, Still, buy_then_sell, can_trade, one_house, own_first}
+use Rattle.rules.specs.Pairs.{First, Place, Still, buy_then_sell, can_trade, one_house}
 use Rattle.rules.specs.Sweep.{Sweep, ends, fill_of, fills, settled}
 use Rattle.law.specs.Outcomes.{FoliosDiffer, OneOutcome}
 use Rattle.law.proofs.Places.{all_from_places, place_more, same_place}
 use Rattle.law.proofs.Sound.{Apart, folio_of, one_place, settled_pairwise}
+use Rattle.law.proofs.Turns.{own_first}
 
 -- neither comes before the other: then both are of one class, and neither is before by rank
 neither_class : (own other ranked back : Bool) → own_first own other ranked ≡ false → own_first other own back ≡ false → (ranked ≡ false) × (back ≡ false)

@@ -1,13 +1,17 @@
 -- The first pair that can trade makes a fill in turn.
-use Rattle.std.proofs.Common.{◌≡◌, ℕ, Bool, true, false, ◌&&◌, ◌||◌, eqb, List, Some, sym, refl, ap, ◌∙◌, ap₂, arith}
+use Rattle.std.proofs.Common.{◌≡◌, ℕ, Bool, true, false, cond, ◌&&◌, ◌||◌, eqb, List, Some, sym, refl, ap, ◌∙◌, ap₂, arith}
 use Rattle.std.proofs.lemmas.Bool.{and_right, eq-eqb}
 use Rattle.std.proofs.lemmas.Bool.Decides.{nat_tests}
 use Rattle.orders.specs.declared.trade.Header.{Header}
 use Rattle.orders.specs.Kind.{Kind}
 use Rattle.orders.specs.Ranking.{Ranking}
-use Rattle.rules.specs.Pairs.{First, comes_before, one_house, stands_before, own_first}
+use Rattle.rules.specs.Pairs.{First, comes_before, one_house, stands_before}
 use Rattle.rules.specs.Sweep.{fill_of}
 use Rattle.rules.specs.Promises.{InTurn}
+
+-- what is of one house comes before what is not; of two alike the rank decides
+abbrev pub own_first : Bool → Bool → Bool → Bool
+own_first own other ranked = cond own (cond other ranked true) (cond other false ranked)
 
 -- a test of equality goes either way round
 eqb_swap : (a b : ℕ) → eqb a b ≡ eqb b a

@@ -1,8 +1,7 @@
 -- Numbers read one after the other, each behind a space.
-use Rattle.std.proofs.Common.{◌≡◌, ℕ, ◌+◌, ◌-◌, ◌^◌, ◌<◌, ◌≤◌, List, [], ◌∷◌, ◌++◌, length, get_or, take, drop, set, decimal, sym, refl, ap, ◌∙◌, subst, append_assoc, append-nil, arith}
+use Rattle.std.proofs.Common.{◌≡◌, ℕ, zero, suc, ◌+◌, ◌-◌, ◌^◌, ◌<◌, ◌≤◌, List, [], ◌∷◌, ◌++◌, length, get_or, take, drop, set, decimal, sym, refl, ap, ◌∙◌, subst, append_assoc, append-nil, arith}
 use Rattle.std.proofs.lemmas.Fmt.{digits_decimal}
-use Rattle.std.proofs.ByRecursion.{All-get_or, All-push}
-use Rattle.std.proofs.lemmas.List.{drop_all, drop_more, flat_map_more, length-set, nil_from_length, take_all, take_more_set}
+use Rattle.std.proofs.lemmas.List.{drop_all, drop_more, length-set, nil_from_length, take_all, take_more_set}
 use Rattle.std.proofs.lemmas.Slice.{first_rest}
 use Rattle.lines.specs.Numbers.{spaced, numbers, Small, AllDigits, NoDigitFirst, Writes}
 use Rattle.lines.proofs.Digits.{own, same_run}
@@ -18,6 +17,19 @@ same_number ds n xs ys all small = same_run ds (decimal n) xs ys all (digits_dec
 pub numbers_stop : (ns : List ℕ) → NoDigitFirst (numbers ns)
 numbers_stop [] digit = omega arith
 numbers_stop (n ∷ ns) digit = omega arith
+
+numbers_push : (ns : List ℕ) (n : ℕ) → numbers (ns ++ (n ∷ [])) ≡ numbers ns ++ spaced n
+numbers_push [] n = append-nil (spaced n)
+numbers_push (m ∷ ns) n = ap (λ (l : List ℕ). spaced m ++ l) (numbers_push ns n) ∙ sym (append_assoc (spaced m) (numbers ns) (spaced n))
+
+small_at : (ns : List ℕ) (i : ℕ) → Small ns → i < length ns → get_or ns i 0 < 2 ^ 32
+small_at [] i small h = absurd (omega arith)
+small_at (n ∷ ns) zero small h = small.0
+small_at (n ∷ ns) (suc i) small h = small_at ns i small.1 (omega arith)
+
+small_push : (ns : List ℕ) (n : ℕ) → Small ns → n < 2 ^ 32 → Small (ns ++ (n ∷ []))
+small_push [] n small fits = (fits, tt)
+small_push (m ∷ ns) n small fits = (small.0, small_push ns n small.1 fits)
 
 -- the first i of count numbers are read, rest is what is left, and no other numbers have these bytes
 pub record Sofar (count : ℕ) (bytes read : List ℕ) (i : ℕ) (rest : List ℕ) : Type 0 where
@@ -35,7 +47,7 @@ module _ {count : ℕ} {bytes read : List ℕ} {i : ℕ} {rest : List ℕ} (sofa
   next more ns w = let size = w.size in sofar.only ns w ∙ ap numbers (drop_more ns i 0 (omega arith))
 
   next_small : i < count → (ns : List ℕ) → Writes count bytes ns → get_or ns i 0 < 2 ^ 32
-  next_small more ns w = let size = w.size in All-get_or (λ n. n < 2 ^ 32) ns i 0 (omega arith) w.small
+  next_small more ns w = let size = w.size in small_at ns i w.small (omega arith)
 
   pub one_more : i < count → (n : ℕ) (behind : List ℕ) → n < 2 ^ 32 → rest ≡ spaced n ++ behind → NoDigitFirst behind → Sofar count bytes (set read i n) (i + 1) behind
   one_more more n behind fits is stops =
@@ -43,12 +55,12 @@ module _ {count : ℕ} {bytes read : List ℕ} {i : ℕ} {rest : List ℕ} (sofa
       let pushed : take (i + 1) (set read i n) ≡ take i read ++ (n ∷ []) = take_more_set read i n (omega arith) in
       record {
         size = length-set read i n ∙ sofar.size;
-        small = subst Small (sym pushed) (All-push (λ m. m < 2 ^ 32) (take i read) n sofar.small fits);
+        small = subst Small (sym pushed) (small_push (take i read) n sofar.small fits);
         front =
             sofar.front
             ∙ ap (λ (l : List ℕ). numbers (take i read) ++ l) is
             ∙ sym (append_assoc (numbers (take i read)) (spaced n) behind)
-            ∙ ap (λ (l : List ℕ). l ++ behind) (flat_map_more spaced [] (take i read) n ∙ sym (ap numbers pushed));
+            ∙ ap (λ (l : List ℕ). l ++ behind) (sym (ap numbers pushed ∙ numbers_push (take i read) n));
         only =
             λ ns w.
             let both = sym is ∙ next more ns w in

@@ -1,6 +1,5 @@
 -- Numbers as a line has them.
-use Rattle.std.specs.Prelude.{◌≡◌, ℕ, ◌^◌, ◌<◌, List, ◌++◌, length, codes, decimal, slice_index}
-use Rattle.std.specs.List.{flat_map, AllByRecursion as All}
+use Rattle.std.specs.Prelude.{◌≡◌, ℕ, ◌^◌, ◌<◌, List, [], ◌∷◌, ◌++◌, length, codes, decimal, slice_index}
 use Rattle.std.specs.Int.{IsInRange}
 
 -- a number in decimal, after one space
@@ -9,11 +8,13 @@ spaced n = codes " " ++ decimal n
 
 -- one number after the other
 abbrev pub numbers : List ℕ → List ℕ
-numbers ns = flat_map spaced ns
+numbers [] = []
+numbers (n ∷ ns) = spaced n ++ numbers ns
 
 -- every number fits 32 bits
 abbrev pub Small : List ℕ → Type 0
-Small ns = All (λ n. n < 2 ^ 32) ns
+Small [] = Unit {0}
+Small (n ∷ ns) = (n < 2 ^ 32) × Small ns
 
 -- every byte is one of 0 to 9
 abbrev pub AllDigits : List ℕ → Type 0

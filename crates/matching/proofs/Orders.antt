@@ -3,8 +3,8 @@ use Rattle.std.proofs.Common.{◌≡◌, ℕ, Bool, true, false, ◌&&◌, eqb, 
 use Rattle.std.proofs.lemmas.Bool.{and_left, false≢true, true≢false, ne_eqb, or_left}
 use Rattle.orders.specs.declared.trade.Header.{Header}
 use Rattle.orders.specs.Ranking.{Ranking}
-use Rattle.rules.specs.Pairs.{one_house, stands_before, comes_before, buy_then_sell, own_first}
-use Rattle.law.proofs.Turns.{or_nothing}
+use Rattle.rules.specs.Pairs.{one_house, stands_before, comes_before, buy_then_sell}
+use Rattle.law.proofs.Turns.{or_nothing, own_first}
 
 -- between two of one class the rank decides
 pub class_same : (p r : Bool) → own_first p p r ≡ r

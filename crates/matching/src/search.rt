@@ -1,7 +1,7 @@
 // The search for the first pair that can trade at a price.
 ghost use Rattle.std.specs.Prelude.{◌≡◌, MatchOption};
 ghost use Rattle.base.specs.declared.Side.TheVariants.{Buy};
-ghost use Rattle.rules.specs.Pairs.{can_trade, Still, First, own_first};
+ghost use Rattle.rules.specs.Pairs.{stands_before, can_trade, Still, First};
 ghost use Rattle.matching.specs.Rows.{better, chosen, FirstSell, RowPair};
 
 use base::Side;
@@ -18,11 +18,12 @@ struct Candidate {
     seller: Header,
 }
 
-// Does the first of two stand before the second? One that trades within its house stands before one that does not;
-// between two alike the priority decides.
-fn stands_before<P: Priority>(own_a: bool, a: &Header, own_b: bool, b: &Header) -> bool
-    ensures { result ≡ own_first own_a own_b (P.ranking.before a.now b.now) }
+// For an order, does the first of two opposite ones stand before the second?
+fn stands_before<P: Priority>(order: &Header, a: &Header, b: &Header) -> bool
+    ensures { result ≡ stands_before P.ranking order.now a.now b.now }
 {
+    let own_a = order.party.house == a.party.house;
+    let own_b = order.party.house == b.party.house;
     if own_a == own_b {
         P::before(a, b)
     } else {
@@ -58,11 +59,7 @@ fn is_better<P: Priority>(buy: &Header, sell: &Header, best: &Option<(usize, Hea
 {
     match best {
         None => true,
-        Some((_, header)) => {
-            let own_sell = buy.party.house == sell.party.house;
-            let own_best = buy.party.house == header.party.house;
-            stands_before::<P>(own_sell, sell, own_best, header)
-        }
+        Some((_, header)) => stands_before::<P>(buy, sell, header),
     }
 }
 
@@ -123,11 +120,12 @@ fn better_pair<P: Priority>(best: Option<Candidate>, row: Option<Candidate>) -> 
     };
     let own_new = new.buyer.party.house == new.seller.party.house;
     let own_old = old.buyer.party.house == old.seller.party.house;
-    if stands_before::<P>(own_new, &new.buyer, own_old, &old.buyer) {
-        row
+    let earlier = if own_new == own_old {
+        P::before(&new.buyer, &old.buyer)
     } else {
-        best
-    }
+        own_new
+    };
+    if earlier { row } else { best }
 }
 
 // The first pair of the table that can trade at the price, as two places, the buy's first.

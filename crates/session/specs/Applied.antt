@@ -61,12 +61,18 @@ pub record Makes (call : Call MidpointOrder) (number : ℕ) (before : MidpointBo
   pub table : SameTable before after
   pub carried : (day : Day MidpointOrder) → Holds midpoint_kind before day → GoesOn midpoint_kind after (event volume_ranking call (length tape) (outcome reply tape_after)) day
 
--- the line writes a call, which was made
+-- the line writes a call, which was made: the line's answer is the book's, and every lawful day that the book held goes
+-- on by this call
 pub record MadeCall (line : List ℕ) (number : ℕ) (before : MidpointBook) (tape : List Fill) (after : MidpointBook) (tape_after : List Fill) (r : Result LineAnswer LineFault) : Type 0 where
   pub call : Call MidpointOrder
   pub readable : Readable call
   pub written : line ≡ line_of call
-  pub made : Makes call number before tape after tape_after r
+  pub reply : Result Answer BookFault
+  pub answered : r ≡ line_reply number call reply
+  pub called : Called midpoint_kind volume_ranking before call (length tape) (outcome reply tape_after) after
+  pub taped : TapeAfter reply tape tape_after
+  pub table : SameTable before after
+  pub carried : (day : Day MidpointOrder) → Holds midpoint_kind before day → GoesOn midpoint_kind after (event volume_ranking call (length tape) (outcome reply tape_after)) day
 
 abbrev pub Applies : List ℕ → ℕ → MidpointBook → List Fill → MidpointBook → List Fill → Result LineAnswer LineFault → Type 0
 Applies line number before tape after tape_after r =
