@@ -1,10 +1,10 @@
 // The arguments INSTRUMENT TYPE of the programs that watch the quotes of one instrument.
 #![tactic(auto)]
 
-use anyhow::anyhow;
 use quotes::board::QuoteBoard;
 use quotes::ticks::SecurityType;
 use std::env;
+use std::process::ExitCode;
 
 // The board that the two arguments name; none where they name none.
 pub fn board_of(rt: &HostRuntime) -> anyhow::Result<Option<QuoteBoard>> {
@@ -22,9 +22,9 @@ pub fn board_of(rt: &HostRuntime) -> anyhow::Result<Option<QuoteBoard>> {
     }
 }
 
-// Where the arguments name no board: tells on standard error how the program is called, and is an error in any case,
-// so that a `main` which answers it ends with status 1.
-pub fn refuse_arguments(rt: &HostRuntime, program: &str) -> anyhow::Result<()> {
+// Where the arguments name no board: tells on standard error how the program is called, and answers the status 1, with
+// which `main` then ends.
+pub fn refuse_arguments(rt: &HostRuntime, program: &str) -> anyhow::Result<ExitCode> {
     eprintln!(rt; "usage: {program} INSTRUMENT equity|sic|warrant|fixed")?;
-    Err(anyhow!("the arguments name no board"))
+    Ok(ExitCode::FAILURE)
 }

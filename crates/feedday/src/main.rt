@@ -10,6 +10,7 @@ use lines::fault::LineFault;
 use orders::trade::Fill;
 use quotes::board::QuoteBoard;
 use session::apply::{LineAnswer, MidpointBook};
+use std::process::ExitCode;
 
 // Orders are for the book, and quotes for the board and the book.
 #[derive(Drop)]
@@ -29,9 +30,12 @@ impl Desk for Feeding {
     }
 }
 
-fn main(rt: HostRuntime) -> anyhow::Result<()> {
+fn main(rt: HostRuntime) -> anyhow::Result<ExitCode> {
     match board_of(&rt)? {
-        Some(board) => Ok(run_lines(&mut Feeding { board }, &rt)?),
+        Some(board) => {
+            run_lines(&mut Feeding { board }, &rt)?;
+            Ok(ExitCode::SUCCESS)
+        }
         None => refuse_arguments(&rt, "feedday"),
     }
 }

@@ -9,6 +9,7 @@ use quotes::answer::Answer;
 use quotes::board::QuoteBoard;
 use std::io;
 use std::io::{BufReader, BufWriter, Read, Write};
+use std::process::ExitCode;
 
 // Fills the buffer from the input, less at the input's end, and answers how many bytes it then holds.
 // All answers are written before it waits for more input.
@@ -55,9 +56,12 @@ fn run(rt: &HostRuntime, mut board: QuoteBoard) -> io::Result<()> {
     output.flush()
 }
 
-fn main(rt: HostRuntime) -> anyhow::Result<()> {
+fn main(rt: HostRuntime) -> anyhow::Result<ExitCode> {
     match board_of(&rt)? {
-        Some(board) => Ok(run(&rt, board)?),
+        Some(board) => {
+            run(&rt, board)?;
+            Ok(ExitCode::SUCCESS)
+        }
         None => refuse_arguments(&rt, "midpoint"),
     }
 }
