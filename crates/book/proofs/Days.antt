@@ -13,7 +13,7 @@ use Rattle.rules.specs.Questions.{State, capacity_of}
 use Rattle.book.specs.declared.open.OpenBook.{OpenBook}
 use Rattle.book.specs.Called.{Called, FillsAtFront, TapeAfter, cancel_answer, cancel_outcome, fills_answer, fills_outcome, outcome}
 use Rattle.book.specs.Holding.{GoesOn, Holds, event}
-use Rattle.book.specs.View.{SameTable, places, view}
+use Rattle.book.specs.View.{SameTable, places}
 
 -- what a call that answers its fills comes to, by the answer of `apply`
 pub fills_same : (r : Result ℕ BookFault) (tape : List Fill) → fills_outcome r tape ≡ outcome (fills_answer r) tape

@@ -9,7 +9,7 @@ use Rattle.rules.specs.declared.call.Call.{Call}
 use Rattle.rules.specs.declared.fault.BookFault.{BookFault}
 use Rattle.rules.specs.Calls.{Outcome, refused, filled, cancelled, Right, state_after}
 use Rattle.rules.specs.Faults.{refusal}
-use Rattle.rules.specs.Questions.{State, capacity_of}
+use Rattle.rules.specs.Questions.{capacity_of}
 use Rattle.book.specs.declared.open.OpenBook.{OpenBook}
 use Rattle.book.specs.View.{view, places}
 

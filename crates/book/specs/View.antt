@@ -1,5 +1,5 @@
 -- A book as its rules see it.
-use Rattle.std.specs.Prelude.{◌≡◌, ℕ, ◌-◌, List, length, take, drop, Option}
+use Rattle.std.specs.Prelude.{◌≡◌, ℕ, ◌-◌, List, length, take, drop}
 use Rattle.rules.specs.Questions.{State}
 use Rattle.book.specs.declared.open.OpenBook.{OpenBook}
 

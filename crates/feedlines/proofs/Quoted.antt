@@ -1,12 +1,12 @@
 -- A line that begins with Q.
-use Rattle.std.proofs.Common.{◌≡◌, ℕ, List, [], ◌∷◌, drop, Some, None, sym, ap, ◌∙◌, subst, arith}
+use Rattle.std.proofs.Common.{◌≡◌, ℕ, List, ◌∷◌, drop, Some, None, sym, ap, ◌∙◌, subst, arith}
 use Rattle.kinds.specs.declared.midpoint.MidpointOrder.{MidpointOrder}
 use Rattle.lines.specs.Lines.{line_of}
 use Rattle.lines.proofs.Forms.{first_apart}
 use Rattle.rules.specs.declared.call.Call.{Call}
 use Rattle.rules.specs.declared.call.Call.TheVariants.{Enter, Cancel, Price, Cross}
 use Rattle.feedlines.specs.Digits.{Spells}
-use Rattle.feedlines.specs.Lines.{WritesCall, WritesMessage}
+use Rattle.feedlines.specs.Lines.{WritesMessage}
 
 -- no call's line does
 pub no_call : (rest : List ℕ) (c : Call MidpointOrder) → 81 ∷ rest ≡ line_of c → ⊥

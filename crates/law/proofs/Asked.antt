@@ -2,7 +2,7 @@
 use Rattle.std.proofs.Common.{◌≡◌, ℕ, ◌<◌, true, false, eqb, ltb, leb, List, [], ◌∷◌, Some, None, sym, ◌∙◌, inl, inr, arith}
 use Rattle.std.specs.List.{AllByRecursion as All}
 use Rattle.std.proofs.lemmas.Bool.{and_parts, cases_Bool, cond-false, cond-true, eqb-false, eqb-true, leb-true, ltb-true}
-use Rattle.base.specs.Questions.{Question, ask, first_no}
+use Rattle.base.specs.Questions.{Question, first_no}
 use Rattle.orders.specs.declared.trade.Party.{Party}
 use Rattle.orders.specs.Kind.{Kind}
 use Rattle.orders.specs.Limits.{folio_in_range, volume_in_range}

@@ -4,7 +4,6 @@ use Rattle.base.specs.declared.Side.{Side}
 use Rattle.base.specs.declared.Side.TheVariants.{Buy, Sell}
 use Rattle.orders.specs.declared.trade.Fill.{Fill}
 use Rattle.orders.specs.declared.trade.Header.{Header}
-use Rattle.orders.specs.declared.trade.Party.{Party}
 use Rattle.orders.specs.Kind.{Kind}
 use Rattle.orders.specs.Ranking.{Ranking}
 use Rattle.rules.specs.Pairs.{buys, sells, can_trade, pair_volume, stands_before, Place}

@@ -1,5 +1,5 @@
 -- The questions before each call, in their order, with the number that is given at a no.
-use Rattle.std.specs.Prelude.{ℕ, ◌-◌, min, Bool, true, false, cond, ◌&&◌, List, [], ◌∷◌, length, is_some, Some, None, Option, ◌==◌, nat_le, nat_lt}
+use Rattle.std.specs.Prelude.{ℕ, ◌-◌, min, Bool, false, cond, ◌&&◌, List, [], ◌∷◌, length, is_some, Some, None, Option, ◌==◌, nat_le, nat_lt}
 use Rattle.base.specs.Price.{price_in_range}
 use Rattle.base.specs.Questions.{Question, ask}
 use Rattle.orders.specs.declared.trade.Party.{Party}

@@ -1,5 +1,5 @@
 -- Questions that are all answered yes, and the two about entries.
-use Rattle.std.proofs.Common.{◌≡◌, ℕ, ◌<◌, Bool, true, false, cond, not, eqb, List, [], ◌∷◌, ◌++◌, is_some, Some, None, Ok, Err, Option, Result, sym, refl, ap, ◌∙◌, arith}
+use Rattle.std.proofs.Common.{◌≡◌, ℕ, ◌<◌, true, false, cond, not, eqb, List, [], ◌∷◌, ◌++◌, is_some, Some, None, Ok, Err, Option, Result, refl, ap, arith}
 use Rattle.std.specs.List.{AllByRecursion as All}
 use Rattle.base.specs.Questions.{Question, first_no}
 use Rattle.orders.specs.declared.trade.Fill.{Fill}

@@ -1,8 +1,8 @@
 -- The block of a list of fills lays it out, and nothing else does.
-use Rattle.std.proofs.Common.{◌≡◌, ℕ, ◌+◌, ◌*◌, ◌^◌, ◌<◌, ◌≤◌, Bool, true, false, cond, not, List, [], ◌∷◌, ◌++◌, map, length, get_or, take, drop, sym, refl, ap, ◌∙◌, arith, take-add}
+use Rattle.std.proofs.Common.{◌≡◌, ℕ, ◌+◌, ◌*◌, ◌<◌, ◌≤◌, List, [], ◌∷◌, ◌++◌, length, get_or, take, drop, sym, refl, ap, ◌∙◌, arith, take-add}
 use Rattle.std.specs.List.{flat_map}
 use Rattle.std.proofs.lemmas.List.FromFn.{fill_by_all}
-use Rattle.std.proofs.lemmas.List.{append_assoc, drop-append-le, drop_at, drop-drop, drop_more, get_or-drop, length-append, length-drop, same_lists, take_all, take-append-drop}
+use Rattle.std.proofs.lemmas.List.{append_assoc, drop-append-le, drop_at, drop-drop, drop_more, get_or-drop, length-append, length-drop, take_all, take-append-drop}
 use Rattle.base.specs.Bytes.{bytes4, number2, number4}
 use Rattle.orders.specs.declared.trade.Fill.{Fill}
 use Rattle.tape.specs.Asked.{fills_in}

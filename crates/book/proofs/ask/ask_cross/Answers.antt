@@ -1,4 +1,4 @@
-use Rattle.std.proofs.Common.{◌≡◌, ℕ, cond, ◌&&◌, ltb, sym, subst}
+use Rattle.std.proofs.Common.{◌&&◌, ltb}
 use Rattle.orders.specs.Limits.{house_in_range, folio_in_range}
 use Rattle.rules.specs.Faults.{refusal}
 use Rattle.book.proofs.Party.{by_first_two}

@@ -1,4 +1,4 @@
-use Rattle.std.proofs.Common.{◌≡◌, map, take, drop, sym, refl, ap, ◌∙◌, arith}
+use Rattle.std.proofs.Common.{◌≡◌, refl, ap, arith}
 use Rattle.orders.specs.declared.trade.Header.{Header}
 use Rattle.book.specs.declared.closed.Unfilled.{Unfilled}
 use Rattle.book.specs.Closed.{unfilled_of}

@@ -1,4 +1,4 @@
-use Rattle.std.proofs.Common.{◌≡◌, sym, ◌∙◌, arith}
+use Rattle.std.proofs.Common.{sym, ◌∙◌, arith}
 use Rattle.std.proofs.lemmas.List.{length-set}
 use Rattle.feedlines.proofs.Spelled.{spelled_more}
 use Rattle.feedlines.proofs.digits.read_digits.Goals as goal

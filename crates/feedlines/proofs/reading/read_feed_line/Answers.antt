@@ -1,4 +1,4 @@
-use Rattle.std.proofs.Common.{◌≡◌, ℕ, List, sym, subst, rules}
+use Rattle.std.proofs.Common.{ℕ, List, sym, subst, rules}
 use Rattle.lines.proofs.Readings.{first_of}
 use Rattle.feedlines.specs.Lines.{ReadsAs}
 use Rattle.feedlines.proofs.reading.read_feed_line.Goals as goal

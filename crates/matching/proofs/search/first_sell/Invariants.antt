@@ -1,4 +1,4 @@
-use Rattle.std.proofs.Common.{◌≤◌, length, take}
+use Rattle.std.proofs.Common.{take}
 use Rattle.matching.specs.Rows.{FirstSell}
 use Rattle.matching.proofs.search.first_sell.Given as goal
 

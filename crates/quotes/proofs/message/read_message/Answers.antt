@@ -2,7 +2,6 @@ use Rattle.std.proofs.Common.{◌≡◌, ℕ, ◌≤◌, List, length, ℤ, sym,
 use Rattle.std.proofs.lemmas.Int.{to_z-of_z}
 use Rattle.std.proofs.lemmas.Bool.{cond-true, le-leb}
 use Rattle.base.specs.Questions.{first_no}
-use Rattle.quotes.specs.declared.message.QuoteUpdate.{QuoteUpdate}
 use Rattle.quotes.specs.declared.message.RawQuote.{RawQuote}
 use Rattle.quotes.specs.declared.ticks.SecurityType.{SecurityType}
 use Rattle.quotes.specs.Message.{fields, field_questions, message_questions, Says}

@@ -1,4 +1,4 @@
-use Rattle.std.proofs.Common.{◌≡◌, length, sym, refl, ◌∙◌}
+use Rattle.std.proofs.Common.{length, refl}
 use Rattle.std.proofs.lemmas.Result.{err_from_is_err_and}
 use Rattle.tape.proofs.Answered.{fills_read, read_asked, read_bad_what, read_bad_who, read_short}
 use Rattle.tape.proofs.reading.read_block.Goals as goal

@@ -1,4 +1,4 @@
-use Rattle.std.proofs.Common.{length, get_or, sym, refl}
+use Rattle.std.proofs.Common.{length, sym}
 use Rattle.std.proofs.lemmas.List.{get_or_default}
 use Rattle.tape.specs.Entries.{admits}
 use Rattle.tape.proofs.Scan.{judged_all, judged_bad, scan_all, scan_bad, scan_on}

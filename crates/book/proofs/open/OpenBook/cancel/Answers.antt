@@ -1,4 +1,4 @@
-use Rattle.std.proofs.Common.{filter, sym, refl, ap, ◌∙◌, arith}
+use Rattle.std.proofs.Common.{filter, refl, ap, ◌∙◌, arith}
 use Rattle.rules.specs.Calls.{other_folio}
 use Rattle.book.proofs.Made.{accepted_cancel, foreign_cancel, moved, unknown_cancel, unmoved}
 use Rattle.book.proofs.open.OpenBook.cancel.Goals as goal

@@ -1,4 +1,4 @@
-use Rattle.std.proofs.Common.{◌≡◌, ℕ, ◌<◌, ◌≤◌, List, [], ◌∷◌, length, take, set, sym, refl, ap, ◌∙◌, subst, arith, rules}
+use Rattle.std.proofs.Common.{length, take, set, refl, arith, rules}
 use Rattle.std.proofs.lemmas.List.{drop-set-lt, length-set, take_more_set}
 use Rattle.rules.specs.declared.call.Call.TheVariants.{Cross}
 use Rattle.rules.specs.Calls.{cross_fill}

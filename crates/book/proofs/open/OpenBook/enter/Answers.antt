@@ -1,4 +1,4 @@
-use Rattle.std.proofs.Common.{◌≡◌, ◌<◌, ◌≤◌, List, [], ◌∷◌, ◌++◌, length, take, sym, refl, ap, ◌∙◌, subst, arith}
+use Rattle.std.proofs.Common.{List, [], ◌∷◌, ◌++◌, length, take, sym, refl, ap, subst, arith}
 use Rattle.rules.specs.declared.call.Call.TheVariants.{Enter}
 use Rattle.rules.specs.Calls.{Swept}
 use Rattle.book.proofs.Made.{accepted_entry, moved, refused_call, room, unmoved}

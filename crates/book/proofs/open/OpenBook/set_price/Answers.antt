@@ -1,8 +1,7 @@
-use Rattle.std.proofs.Common.{◌≡◌, ℕ, ◌≤◌, List, [], length, take, Some, None, Option, sym, refl, subst, arith}
+use Rattle.std.proofs.Common.{ℕ, List, length, take, Some, Option, sym, refl, subst, arith}
 use Rattle.rules.specs.declared.call.Call.TheVariants.{Price}
-use Rattle.rules.specs.Calls.{Outcome, Swept, filled, refused}
+use Rattle.rules.specs.Calls.{Swept, refused}
 use Rattle.rules.specs.Faults.{refusal}
-use Rattle.book.specs.declared.open.OpenBook.{OpenBook}
 use Rattle.book.specs.Called.{Called}
 use Rattle.book.specs.View.{view}
 use Rattle.book.proofs.Made.{accepted_none, accepted_price, moved, price_room, refused_call, unmoved}

@@ -1,4 +1,3 @@
-use Rattle.std.proofs.Common.{rules}
 use Rattle.base.specs.declared.Side.TheVariants.{Sell}
 use Rattle.quotes.specs.declared.message.Origin.TheVariants.{Bmv, Biva}
 use Rattle.quotes.proofs.Ticked.{each}

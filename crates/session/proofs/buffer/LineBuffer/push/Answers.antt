@@ -1,4 +1,4 @@
-use Rattle.std.proofs.Common.{◌≡◌, ℕ, ◌+◌, ◌<◌, ◌≤◌, List, [], ◌∷◌, ◌++◌, length, take, set, sym, ap, ◌∙◌, arith, rules}
+use Rattle.std.proofs.Common.{◌≡◌, ℕ, ◌+◌, ◌<◌, List, [], ◌∷◌, ◌++◌, length, take, set, sym, ◌∙◌, arith, rules}
 use Rattle.std.proofs.lemmas.List.{length_push, length-take-le, take_all, take-append-le, take_more_set}
 use Rattle.session.proofs.buffer.LineBuffer.push.Goals as goal
 
