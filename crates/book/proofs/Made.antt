@@ -54,13 +54,17 @@ price_room kind st tape price none =
 pub cross_room : {O : Type 0} (kind : Kind O) (st : State O) (tape : ℕ) (p : Party) (v : ℕ) → first_no (cross_questions kind st tape p v) ≡ 0 → 1 ≤ tape
 cross_room kind st tape p v none =
     let yes_all = accepted_yes kind 0 st tape (Cross p v) none in
-    leb-true 1 tape yes_all.1.1.1.1.0
+    let from_third = yes_all.1.1 in
+    let from_fifth = from_third.1.1 in
+    leb-true 1 tape from_fifth.0
 
 -- an accepted entry finds room in the book and on the tape
 pub room : {O : Type 0} (kind : Kind O) (cap : ℕ) (st : State O) (tape : ℕ) (o : O) → first_no (questions kind cap st tape (Enter o)) ≡ 0 → (length st.resting < cap) × (length st.resting ≤ tape)
 room kind cap st tape o none =
     let yes_all = accepted_yes kind cap st tape (Enter o) none in
-    (ltb-true (length st.resting) cap yes_all.1.1.1.1.0, leb-true (length st.resting) tape yes_all.1.1.1.1.1.0)
+    let from_third = yes_all.1.1 in
+    let from_fifth = from_third.1.1 in
+    (ltb-true (length st.resting) cap from_fifth.0, leb-true (length st.resting) tape from_fifth.1.0)
 
 module _ {O : Type 0} (kind : Kind O) (rank : Ranking) where
   -- what a sweep leaves is what its fills leave

@@ -75,7 +75,7 @@ pub record Running {O P : Type 0} (kind : Kind O) (rank : Ranking) (calls : List
 module _ {O P : Type 0} (kind : Kind O) (rank : Ranking) (calls : List (Call O)) (replies₀ : List (Result Answer BookFault)) (tape₀ : List Fill) (book₀ : OpenBook O P) where
   -- one call more: it was lent the part of the tape behind the fills so far
   one_more : (book after : OpenBook O P) (replies : List (Result Answer BookFault)) (tape part part_after : List Fill) (used i : ℕ) (call : Call O) (r : Result Answer BookFault) → Running kind rank calls replies₀ tape₀ book₀ book replies tape used i → i < length calls → i < length replies → call ≡ get_or calls i call → part ≡ take (length tape - used) (drop used tape) → length part_after ≡ length part → TapeAfter r part part_after → SameTable book after → ((day : Day O) → Holds kind book day → GoesOn kind after (event rank call (length part) (outcome r part_after)) day) → Running kind rank calls replies₀ tape₀ book₀ after (set replies i r) (put_mid used (length tape - used) tape part_after) (used + told_fills r) (i + 1)
-  one_more book after replies tape part part_after used i call r run below room read is same-part taped same carries =
+  one_more book after replies tape part part_after used i call r run below room read is same_part taped same carries =
       let on = carries run.day run.holds in
       let rest : part ≡ drop used tape = is ∙ take_rest tape used in
       let rest_long : length part ≡ length tape - used = ap length rest ∙ length-drop used tape in
@@ -111,10 +111,10 @@ module _ {O P : Type 0} (kind : Kind O) (rank : Ranking) (calls : List (Call O))
 
   -- the same as the code has it: n is the length of the tape, told how many fills the answer tells
   pub running_more : (book after : OpenBook O P) (replies : List (Result Answer BookFault)) (tape part part_after : List Fill) (used i n told : ℕ) (call : Call O) (r : Result Answer BookFault) → n ≡ length tape₀ → told ≡ told_fills r → Running kind rank calls replies₀ tape₀ book₀ book replies tape used i → i < length calls → i < length replies → call ≡ get_or calls i call → part ≡ take (n - used) (drop used tape) → length part_after ≡ length part → TapeAfter r part part_after → SameTable book after → ((day : Day O) → Holds kind book day → GoesOn kind after (event rank call (length part) (outcome r part_after)) day) → Running kind rank calls replies₀ tape₀ book₀ after (set replies i r) (put_mid used (n - used) tape part_after) (used + told) (i + 1)
-  running_more book after replies tape part part_after used i n told call r long-is told_is run below room read part-is same-part taped same carries =
-      subst (λ (m : ℕ). Running kind rank calls replies₀ tape₀ book₀ after (set replies i r) (put_mid used (m - used) tape part_after) (used + told) (i + 1)) (run.tape_long ∙ sym long-is)
+  running_more book after replies tape part part_after used i n told call r long_is told_is run below room read part_is same_part taped same carries =
+      subst (λ (m : ℕ). Running kind rank calls replies₀ tape₀ book₀ after (set replies i r) (put_mid used (m - used) tape part_after) (used + told) (i + 1)) (run.tape_long ∙ sym long_is)
       (subst (λ (m : ℕ). Running kind rank calls replies₀ tape₀ book₀ after (set replies i r) (put_mid used (length tape - used) tape part_after) (used + m) (i + 1)) (sym told_is)
-      (one_more book after replies tape part part_after used i call r run below room read (part-is ∙ ap (λ m. take (m - used) (drop used tape)) (long-is ∙ sym run.tape_long)) same-part taped same carries))
+      (one_more book after replies tape part part_after used i call r run below room read (part_is ∙ ap (λ m. take (m - used) (drop used tape)) (long_is ∙ sym run.tape_long)) same_part taped same carries))
 
   -- all calls made
   pub ran : (book : OpenBook O P) (replies : List (Result Answer BookFault)) (tape : List Fill) (used i : ℕ) → i ≡ length calls → Running kind rank calls replies₀ tape₀ book₀ book replies tape used i → DayRun kind rank calls replies₀ tape₀ book replies tape used

@@ -34,7 +34,7 @@ module _ (before : Header → Header → Bool) (Before : Header → Header → T
             (Decides-not (before a b) (decides a b));
       }
 
--- what arrival-before tests
+-- what arrival_before tests
 abbrev Earlier : Header → Header → Type 0
 Earlier a b = a.party.folio < b.party.folio
 
@@ -48,7 +48,7 @@ arrival_ranking =
     (λ a b c p q. omega arith)
     (λ a b apart. (λ p q. omega arith, λ p. omega arith))
 
--- what volume-before tests
+-- what volume_before tests
 abbrev Larger : Header → Header → Type 0
 Larger a b = (b.entered < a.entered) ⊎ ((a.entered ≡ b.entered) × Earlier a b)
 

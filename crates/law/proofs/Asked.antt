@@ -44,7 +44,8 @@ module _ {O : Type 0} (kind : Kind O) where
       let all = accepted_yes capacity st tape (Enter o) e in
       let h = kind.header o in
       let folios = and_parts (folio_in_range h.party.folio) (ltb st.highest h.party.folio) all.1.0 in
-      let volumes = and_parts (volume_in_range h.entered) (eqb h.left h.entered) all.1.1.0 in
+      let from_third = all.1.1 in
+      let volumes = and_parts (volume_in_range h.entered) (eqb h.left h.entered) from_third.0 in
       let range = and_parts (leb 1 h.entered) (leb h.entered 9000000) volumes.0 in
       let whole : h.left ≡ h.entered = eqb-true h.left h.entered volumes.1 in
       (ltb-true st.highest h.party.folio folios.1, whole, omega (arith, leb-true 1 h.entered range.0))

@@ -18,7 +18,7 @@ digits_utf8 ds all = IsUtf8-from_ascii ds (IsAscii-from_digits ds (own.to ds all
 
 -- only 0 itself has a zero in front
 pub leading_zero : (ds : List ℕ) → 1 < length ds → get_or ds 0 0 ≡ 48 → (n : ℕ) → n < 2 ^ 32 → ds ≡ decimal n → ⊥
-leading_zero ds long zero-first n small e =
+leading_zero ds long zero_first n small e =
     let same_length = ap length e in
     let same_first = ap (λ (l : List ℕ). get_or l 0 0) e in
     ⊎_elim

@@ -25,7 +25,7 @@ standing rows Biva Buy = quote rows 1 0
 standing rows Biva Sell = quote rows 1 1
 
 abbrev pub four : Option ℕ → Option ℕ → Option ℕ → Option ℕ → Rows
-four bmv-bid bmv-offer biva-bid biva-offer = (bmv-bid ∷ bmv-offer ∷ []) ∷ (biva-bid ∷ biva-offer ∷ []) ∷ []
+four bmv_bid bmv_offer biva_bid biva_offer = (bmv_bid ∷ bmv_offer ∷ []) ∷ (biva_bid ∷ biva_offer ∷ []) ∷ []
 
 -- a new board's
 abbrev pub no_quotes : Rows

@@ -73,10 +73,12 @@ own_house_first = (
 
 -- all but the last question of an entry are the same for every tape
 entry_needs_three : EntryNeedsThree
-entry_needs_three st o three on-three =
-    let given = accepted_yes midpoint_kind 512 st 3 (Enter o) on-three in
+entry_needs_three st o three on_three =
+    let given = accepted_yes midpoint_kind 512 st 3 (Enter o) on_three in
     let before = take 5 (questions midpoint_kind 512 st 2 (Enter o)) in
-    let answered : All (λ q. q.answer ≡ true) before = (given.0, (given.1.0, (given.1.1.0, (given.1.1.1.0, (given.1.1.1.1.0, tt))))) in
+    let from_third = given.1.1 in
+    let from_fifth = from_third.1.1 in
+    let answered : All (λ q. q.answer ≡ true) before = (given.0, (given.1.0, (from_third.0, (from_third.1.0, (from_fifth.0, tt))))) in
     let tape = ask (leb (length st.resting) 2) 7 in
     (sym (last_decides before tape answered ∙ ap (λ n. cond (leb n 2) 0 7) three), λ e. omega arith)
 
