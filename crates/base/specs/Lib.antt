@@ -2,3 +2,4 @@ pub mod Bytes
 pub mod Letters
 pub mod Price
 pub mod Questions
+pub mod Range

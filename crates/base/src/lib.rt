@@ -2,25 +2,42 @@
 #![tactic(auto)]
 
 ghost use Rattle.std.specs.Prelude.{◌≡◌};
-ghost use Rattle.base.specs.Letters.{side_of};
+ghost use Rattle.base.specs.Letters.{NamedBy};
+ghost use Rattle.base.specs.Range.{within};
 ghost use Rattle.base.specs.Price.{price_in_range};
 
 // A purchase or a sale.
-#[derive(Clone, Copy, PartialEq, Eq, Debug)]
+#[derive(Clone, Copy, PartialEq, Eq, Debug, Default)]
 pub enum Side {
+    #[default]
     Buy,
     Sell,
 }
 
+// A letter that names no side.
+#[derive(Clone, Copy, PartialEq, Eq, Debug)]
+pub struct UnknownSide;
+
 // The side that a letter of a message or a line names.
-pub fn side_of(letter: u8) -> Option<Side>
-    ensures { result ≡ side_of letter }
-{
-    match letter as char {
-        'C' => Some(Side::Buy),
-        'V' => Some(Side::Sell),
-        _ => None,
+impl TryFrom<u8> for Side {
+    type Error = UnknownSide;
+
+    ghost try_from_gives = { NamedBy };
+
+    fn try_from(letter: u8) -> Result<Side, UnknownSide> {
+        match letter as char {
+            'C' => Ok(Side::Buy),
+            'V' => Ok(Side::Sell),
+            _ => Err(UnknownSide),
+        }
     }
+}
+
+// Is the number one of a range?
+pub fn is_within<const LOWEST: u32, const HIGHEST: u32>(number: u32) -> bool
+    ensures { result ≡ within LOWEST HIGHEST number }
+{
+    LOWEST <= number && number <= HIGHEST
 }
 
 const HIGHEST_PRICE: u32 = 100_000_000;
@@ -29,7 +46,7 @@ const HIGHEST_PRICE: u32 = 100_000_000;
 pub fn is_price(price: u32) -> bool
     ensures { result ≡ price_in_range price }
 {
-    1 <= price && price <= HIGHEST_PRICE
+    is_within::<1, HIGHEST_PRICE>(price)
 }
 
 // The part of the service that refuses.

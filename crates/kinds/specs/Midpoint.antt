@@ -5,9 +5,9 @@ use Rattle.base.specs.declared.Side.{Side}
 use Rattle.base.specs.declared.Side.TheVariants.{Buy, Sell}
 use Rattle.base.specs.Price.{price_in_range}
 use Rattle.base.specs.Questions.{Question, ask, first_no}
+use Rattle.base.specs.Range.{within}
 use Rattle.orders.specs.declared.trade.Header.{Header}
 use Rattle.orders.specs.Kind.{Kind}
-use Rattle.orders.specs.Limits.{within}
 use Rattle.kinds.specs.declared.midpoint.MidpointOrder.{MidpointOrder}
 use Rattle.kinds.specs.Reduction.{reduced_header, header_reduces, header_keeps}
 

@@ -2,10 +2,11 @@
 ghost use Rattle.kinds.specs.Closing.{closing_kind};
 
 use crate::reduction::reduced_header;
+use orders::fault::OwnFault;
 use orders::order::Order;
 use orders::trade::Header;
 
-#[derive(Clone, Copy)]
+#[derive(Clone, Copy, PartialEq, Eq, Debug)]
 pub enum Quantity {
     // Any volume.
     Partial,
@@ -13,7 +14,7 @@ pub enum Quantity {
     AllOrNone,
 }
 
-#[derive(Clone, Copy)]
+#[derive(Clone, Copy, PartialEq, Eq, Debug)]
 pub struct ClosingOrder {
     pub header: Header,
     pub quantity: Quantity,
@@ -27,8 +28,8 @@ impl Order for ClosingOrder {
     }
 
     // The kind has no questions of its own.
-    fn own_refusal(&self) -> u32 {
-        0
+    fn ask_own(&self) -> Result<(), OwnFault> {
+        Ok(())
     }
 
     fn takes(&self, volume: u32, _price: u32) -> bool {
@@ -41,7 +42,7 @@ impl Order for ClosingOrder {
     fn reduced(&self, volume: u32) -> ClosingOrder {
         ClosingOrder {
             header: reduced_header(self.header, volume),
-            quantity: self.quantity,
+            ..*self
         }
     }
 }

@@ -4,19 +4,13 @@ ghost use Rattle.kinds.specs.Midpoint.{within_protection, midpoint_kind};
 
 use crate::reduction::reduced_header;
 use base::{Side, is_price};
+use orders::fault::OwnFault;
 use orders::order::Order;
 use orders::trade::Header;
 
 const LOWEST_MINIMUM: u32 = 1;
 
-// The numbers of the kind's own questions, and of none.
-const BAD_PROTECTION: u32 = 4;
-
-const BAD_MINIMUM: u32 = 5;
-
-const NO_REFUSAL: u32 = 0;
-
-#[derive(Clone, Copy)]
+#[derive(Clone, Copy, PartialEq, Eq, Debug, Default)]
 pub struct MidpointOrder {
     pub header: Header,
     // The highest price of a buy, the lowest of a sell.
@@ -42,15 +36,15 @@ impl Order for MidpointOrder {
         self.header
     }
 
-    fn own_refusal(&self) -> u32 {
+    fn ask_own(&self) -> Result<(), OwnFault> {
         if !is_price(self.protection) {
-            return BAD_PROTECTION;
+            return Err(OwnFault::BadProtection);
         }
         // The volume entered, since the minimum was given with it.
         if self.minimum < LOWEST_MINIMUM || self.minimum > self.header.entered {
-            return BAD_MINIMUM;
+            return Err(OwnFault::BadMinimum);
         }
-        NO_REFUSAL
+        Ok(())
     }
 
     fn takes(&self, volume: u32, price: u32) -> bool {
@@ -60,8 +54,7 @@ impl Order for MidpointOrder {
     fn reduced(&self, volume: u32) -> MidpointOrder {
         MidpointOrder {
             header: reduced_header(self.header, volume),
-            protection: self.protection,
-            minimum: self.minimum,
+            ..*self
         }
     }
 }

@@ -3,6 +3,7 @@ use crate::closing::{ClosingOrder, Quantity};
 use crate::midpoint::MidpointOrder;
 use crate::priorities::{ArrivalPriority, VolumePriority};
 use base::Side;
+use orders::fault::OwnFault;
 use orders::order::Order;
 use orders::priority::Priority;
 use orders::trade::{Header, Party};
@@ -31,6 +32,11 @@ fn closing(quantity: Quantity) -> ClosingOrder {
     }
 }
 
+// The number of the kind's own question that is answered no, or 0.
+fn own_number<O: Order>(order: O) -> u32 {
+    order.ask_own().map_or_else(OwnFault::number, |()| 0)
+}
+
 #[test]
 fn takes_its_minimum_and_more(rt: HostRuntime) {
     let buy = midpoint(Side::Buy, 250_000, 500);
@@ -48,12 +54,12 @@ fn takes_within_its_protection(rt: HostRuntime) {
 
 #[test]
 fn asks_its_own_questions_in_order(rt: HostRuntime) {
-    assert_eq!(rt; midpoint(Side::Buy, 0, 0).own_refusal(), 4);
-    assert_eq!(rt; midpoint(Side::Buy, 100_000_001, 1).own_refusal(), 4);
-    assert_eq!(rt; midpoint(Side::Buy, 1, 0).own_refusal(), 5);
-    assert_eq!(rt; midpoint(Side::Buy, 1, 1_001).own_refusal(), 5);
+    assert_eq!(rt; own_number(midpoint(Side::Buy, 0, 0)), 4);
+    assert_eq!(rt; own_number(midpoint(Side::Buy, 100_000_001, 1)), 4);
+    assert_eq!(rt; own_number(midpoint(Side::Buy, 1, 0)), 5);
+    assert_eq!(rt; own_number(midpoint(Side::Buy, 1, 1_001)), 5);
     // The minimum may be more than is left, and not more than was entered.
-    assert_eq!(rt; midpoint(Side::Buy, 100_000_000, 1_000).own_refusal(), 0);
+    assert_eq!(rt; own_number(midpoint(Side::Buy, 100_000_000, 1_000)), 0);
 }
 
 #[test]
@@ -62,7 +68,7 @@ fn all_or_none_takes_only_what_is_left(rt: HostRuntime) {
     assert!(rt; !closing(Quantity::AllOrNone).takes(299, 1));
     assert!(rt; !closing(Quantity::AllOrNone).takes(0, 1));
     assert!(rt; closing(Quantity::Partial).takes(299, 1));
-    assert_eq!(rt; closing(Quantity::AllOrNone).own_refusal(), 0);
+    assert_eq!(rt; own_number(closing(Quantity::AllOrNone)), 0);
 }
 
 #[test]

@@ -1,8 +1,6 @@
 -- The ranges of houses, folios and volumes.
-use Rattle.std.specs.Prelude.{Bool, ◌&&◌, ℕ, leb}
-
-abbrev pub within : ℕ → ℕ → ℕ → Bool
-within lowest highest n = leb lowest n && leb n highest
+use Rattle.std.specs.Prelude.{Bool, ℕ}
+use Rattle.base.specs.Range.{within}
 
 abbrev pub house_in_range : ℕ → Bool
 house_in_range = within 1 999

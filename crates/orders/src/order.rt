@@ -1,7 +1,9 @@
 // A kind of order: the questions that it answers of itself. No question changes the order.
 ghost use Rattle.std.specs.Prelude.{◌≡◌};
 ghost use Rattle.orders.specs.Kind.{Kind};
+ghost use Rattle.orders.specs.Own.{ComesTo};
 
+use crate::fault::OwnFault;
 use crate::trade::Header;
 
 pub trait Order: Copy {
@@ -11,9 +13,9 @@ pub trait Order: Copy {
     fn header(&self) -> Header
         ensures { result ≡ kind.header self.now };
 
-    // The number of the first of the kind's own questions that is answered no, or 0.
-    fn own_refusal(&self) -> u32
-        ensures { result ≡ kind.refusal self.now };
+    // Asks the kind's own questions: the fault is that of the first that is answered no.
+    fn ask_own(&self) -> Result<(), OwnFault>
+        ensures { ComesTo result (kind.refusal self.now) };
 
     // Would it trade this volume at this price?
     fn takes(&self, volume: u32, price: u32) -> bool

@@ -2,14 +2,14 @@
 use base::Side;
 
 // The house and the folio on one side of a trade.
-#[derive(Clone, Copy)]
+#[derive(Clone, Copy, PartialEq, Eq, Debug, Default)]
 pub struct Party {
     pub house: u32,
     pub folio: u32,
 }
 
 // What every order shows, whatever its kind.
-#[derive(Clone, Copy)]
+#[derive(Clone, Copy, PartialEq, Eq, Debug, Default)]
 pub struct Header {
     pub side: Side,
     pub party: Party,
@@ -18,7 +18,7 @@ pub struct Header {
 }
 
 // One trade between a buyer and a seller.
-#[derive(Clone, Copy)]
+#[derive(Clone, Copy, PartialEq, Eq, Debug, Default)]
 pub struct Fill {
     pub price: u32,
     pub volume: u32,

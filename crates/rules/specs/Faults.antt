@@ -2,6 +2,7 @@
 use Rattle.std.specs.Prelude.{ℕ}
 use Rattle.base.specs.declared.Layer.TheVariants.{Book}
 use Rattle.base.specs.declared.Refusal.{Refusal}
+use Rattle.orders.specs.Own.{own_number}
 use Rattle.rules.specs.declared.fault.BookFault.{BookFault}
 use Rattle.rules.specs.declared.fault.BookFault.TheVariants.{HouseOutOfRange, FolioNotNext, VolumeOutOfRange, Own, BookFull, TapeTooShort, UnknownFolio, OtherHouse, PriceOutOfRange, NoPriceInForce, ListTooShort}
 
@@ -13,7 +14,7 @@ abbrev pub refusal : BookFault → Refusal
 refusal HouseOutOfRange = book_refusal 1
 refusal FolioNotNext = book_refusal 2
 refusal VolumeOutOfRange = book_refusal 3
-refusal (Own number) = book_refusal number
+refusal (Own own) = book_refusal (own_number own)
 refusal BookFull = book_refusal 6
 refusal TapeTooShort = book_refusal 7
 refusal UnknownFolio = book_refusal 8

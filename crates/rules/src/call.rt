@@ -1,7 +1,7 @@
 // What can be asked of an open book, and what it answers.
 use orders::trade::Party;
 
-#[derive(Clone, Copy)]
+#[derive(Clone, Copy, PartialEq, Eq, Debug)]
 pub enum Call<O> {
     // Adds the order to the book.
     Enter(O),
@@ -13,7 +13,7 @@ pub enum Call<O> {
     Cross { party: Party, volume: u32 },
 }
 
-#[derive(Clone, Copy)]
+#[derive(Clone, Copy, PartialEq, Eq, Debug)]
 pub enum Answer {
     // How many fills the call made; they stand at the tape's front.
     Filled(usize),

@@ -1,18 +1,20 @@
 // Why the book refuses a call.
 ghost use Rattle.std.specs.Prelude.{◌≡◌};
+ghost use Rattle.rules.specs.declared.fault.BookFault.TheVariants.{Own};
 ghost use Rattle.rules.specs.Faults.{refusal};
 
 use base::{Layer, Refusal};
+use orders::fault::OwnFault;
 
-#[derive(Clone, Copy)]
+#[derive(Clone, Copy, PartialEq, Eq, Debug)]
 pub enum BookFault {
     HouseOutOfRange,
     // Out of range, or not above the highest.
     FolioNotNext,
     // Out of range, or not all of it left.
     VolumeOutOfRange,
-    // The number that the kind of order tells.
-    Own(u32),
+    // A question of the kind of order.
+    Own(OwnFault),
     BookFull,
     TapeTooShort,
     UnknownFolio,
@@ -22,15 +24,23 @@ pub enum BookFault {
     ListTooShort,
 }
 
-impl BookFault {
-    pub fn refusal(self) -> Refusal
-        ensures { result ≡ refusal self }
-    {
-        let number = match self {
+impl From<OwnFault> for BookFault {
+    ghost from_gives = { λ own fault. fault ≡ Own own };
+
+    fn from(own: OwnFault) -> BookFault {
+        BookFault::Own(own)
+    }
+}
+
+impl From<BookFault> for Refusal {
+    ghost from_gives = { λ fault told. told ≡ refusal fault };
+
+    fn from(fault: BookFault) -> Refusal {
+        let number = match fault {
             BookFault::HouseOutOfRange => 1,
             BookFault::FolioNotNext => 2,
             BookFault::VolumeOutOfRange => 3,
-            BookFault::Own(number) => number,
+            BookFault::Own(own) => own.number(),
             BookFault::BookFull => 6,
             BookFault::TapeTooShort => 7,
             BookFault::UnknownFolio => 8,
