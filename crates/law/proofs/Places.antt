@@ -45,29 +45,34 @@ module _ {X : Type 0} where
   -- a filter that each element passes keeps all
   pub kept_all : (p : X → Bool) (xs : List X) → All (λ x. p x ≡ true) xs → filter p xs ≡ xs
   kept_all p [] all = refl
-  kept_all p (x ∷ xs) all = rw all.0 (ap (λ ys. x ∷ ys) (kept_all p xs all.1))
+  kept_all p (x ∷ xs) all = grind (arith, kept_all p xs all.1)
 
   -- what agrees on each element has one sum
   pub sum_by_same : (f g : X → ℕ) (xs : List X) → ((k : ℕ) (y : X) → Place xs k y → f y ≡ g y) → sum_by f xs ≡ sum_by g xs
   sum_by_same f g [] agree = refl
   sum_by_same f g (x ∷ xs) agree =
-      let e : f x ≡ g x = agree 0 x (omega arith, refl) in
-      let es : sum_by f xs ≡ sum_by g xs = sum_by_same f g xs (λ k y at. agree (suc k) y (place_more x xs k y at)) in
-      omega (arith, sum_by-cons f x xs, sum_by-cons g x xs)
+      omega (arith, agree 0 x (omega arith, refl), sum_by_same f g xs (λ k y at. agree (suc k) y (place_more x xs k y at)), sum_by-cons f x xs, sum_by-cons g x xs)
 
   -- what differs at one place alone
   pub sum_by_but_one : (f g : X → ℕ) (xs : List X) (i : ℕ) (x : X) → Place xs i x → ((k : ℕ) (y : X) → Place xs k y → (k ≡ i → ⊥) → f y ≡ g y) → sum_by f xs + g x ≡ sum_by g xs + f x
   sum_by_but_one f g [] i x at agree = absurd (omega arith)
   sum_by_but_one f g (z ∷ xs) zero x at agree =
-      let es : sum_by f xs ≡ sum_by g xs = sum_by_same f g xs (λ k y there. agree (suc k) y (place_more z xs k y there) (λ e. omega arith)) in
-      let ef : f x ≡ f z = ap f at.1 in
-      let eg : g x ≡ g z = ap g at.1 in
-      omega (arith, sum_by-cons f z xs, sum_by-cons g z xs)
+      omega (
+        arith,
+        sum_by_same f g xs (λ k y there. agree (suc k) y (place_more z xs k y there) (λ e. omega arith)),
+        ap f at.1,
+        ap g at.1,
+        sum_by-cons f z xs,
+        sum_by-cons g z xs,
+      )
   sum_by_but_one f g (z ∷ xs) (suc i) x at agree =
-      let e : f z ≡ g z = agree 0 z (omega arith, refl) (λ e. omega arith) in
-      let es : sum_by f xs + g x ≡ sum_by g xs + f x =
-      sum_by_but_one f g xs i x (place_tail z xs i x at) (λ k y there ne. agree (suc k) y (place_more z xs k y there) (λ e. ne (omega arith))) in
-      omega (arith, sum_by-cons f z xs, sum_by-cons g z xs)
+      omega (
+        arith,
+        agree 0 z (omega arith, refl) (λ e. omega arith),
+        sum_by_but_one f g xs i x (place_tail z xs i x at) (λ k y there ne. agree (suc k) y (place_more z xs k y there) (λ e. ne (omega arith))),
+        sum_by-cons f z xs,
+        sum_by-cons g z xs,
+      )
 
 -- the sum over what a filter keeps of a changed list, where what it leaves out counts 0
 pub sum_by_kept_map : {X Y : Type 0} (p : Y → Bool) (k : X → Y) (h : Y → ℕ) → ((y : Y) → p y ≡ false → h y ≡ 0) → (xs : List X) → sum_by h (filter p (map k xs)) ≡ sum_by (λ x. h (k x)) xs

@@ -1,14 +1,18 @@
 -- What holds of the orders that rest along a lawful day.
-use Rattle.std.proofs.Common.{◌≡◌, ℕ, zero, suc, ◌<◌, ◌≤◌, Bool, true, ◌⊎◌, List, [], ◌∷◌, ◌++◌, map, filter, sym, refl, ap, ◌∙◌, subst, inl, inr, arith}
+use Rattle.std.proofs.Common.{◌≡◌, ℕ, ◌<◌, ◌≤◌, Bool, true, List, [], ◌∷◌, ◌++◌, map, filter, sym, subst, inl, inr, arith}
 use Rattle.std.specs.List.{AllByRecursion as All}
-use Rattle.std.proofs.ByRecursion.{All-weaker, All-map, all_kept_by, All-push, kept_by_passes}
-use Rattle.std.proofs.lemmas.Bool.{cond_both, ltb-true, cases_lt}
+use Rattle.std.specs.List.{AllPairs}
+use Rattle.std.proofs.lemmas.Grind.{common_steps}
+use Rattle.std.proofs.lemmas.List.{get_or-map, length-map}
+use Rattle.std.proofs.lemmas.List.Kept.{AllPairs-filter}
+use Rattle.std.proofs.lemmas.List.Quantifiers.{all_pairs_push}
+use Rattle.std.proofs.ByRecursion.{All-get_or, All-weaker, All-map, all_kept_by, All-push, kept_by_passes}
+use Rattle.std.proofs.lemmas.Bool.{cases_order, ltb-true}
 use Rattle.orders.specs.declared.trade.Fill.{Fill}
 use Rattle.orders.specs.Kind.{Kind}
 use Rattle.rules.specs.Pairs.{Place}
-use Rattle.rules.specs.Sweep.{after_fill, bears, settled, something_left}
+use Rattle.rules.specs.Sweep.{after_fill, settled, something_left}
 use Rattle.rules.specs.Calls.{all_settled}
-use Rattle.law.proofs.Places.{all_place, place_tail}
 
 module _ {O : Type 0} (kind : Kind O) where
   -- the folio that an order shows
@@ -17,8 +21,7 @@ module _ {O : Type 0} (kind : Kind O) where
 
   -- each order's folio is so related to that of each later one
   abbrev pub Pairwise : (ℕ → ℕ → Type 0) → List O → Type 0
-  Pairwise R [] = Unit {0}
-  Pairwise R (o ∷ xs) = All (λ x. R (folio_of o) (folio_of x)) xs × Pairwise R xs
+  Pairwise R xs = AllPairs (λ x y. R (folio_of x) (folio_of y)) xs
 
   -- folios rise strictly
   abbrev pub Rising : List O → Type 0
@@ -40,24 +43,20 @@ module _ {O : Type 0} (kind : Kind O) where
 
   -- an empty book is sound
   pub nothing_sound : (highest : ℕ) → Sound highest []
-  nothing_sound highest = record { rising = tt; below = tt; live = tt }
+  nothing_sound highest = record { rising = λ i j d lt within. absurd (omega arith); below = tt; live = tt }
 
   -- folios that rise are apart
   pub apart_from_rising : (xs : List O) → Rising xs → Apart xs
-  apart_from_rising [] h = tt
-  apart_from_rising (o ∷ xs) h =
-      (All-weaker (λ x. folio_of o < folio_of x) (λ x. folio_of o ≡ folio_of x → ⊥) (λ x lt e. omega arith) xs h.0, apart_from_rising xs h.1)
+  apart_from_rising xs h = λ i j d lt within e. omega (arith, h i j d lt within)
 
   -- two orders with one folio stand at one place
   pub one_place : (xs : List O) (i j : ℕ) (x y : O) → Apart xs → Place xs i x → Place xs j y → folio_of x ≡ folio_of y → i ≡ j
-  one_place [] i j x y h p q e = absurd (omega arith)
-  one_place (o ∷ xs) zero zero x y h p q e = refl
-  one_place (o ∷ xs) zero (suc j) x y h p q e =
-      absurd (all_place (λ z. folio_of o ≡ folio_of z → ⊥) xs j y h.0 (place_tail o xs j y q) (sym (ap folio_of p.1) ∙ e))
-  one_place (o ∷ xs) (suc i) zero x y h p q e =
-      absurd (all_place (λ z. folio_of o ≡ folio_of z → ⊥) xs i x h.0 (place_tail o xs i x p) (sym (ap folio_of q.1) ∙ sym e))
-  one_place (o ∷ xs) (suc i) (suc j) x y h p q e =
-      ap suc (one_place xs i j x y h.1 (place_tail o xs i x p) (place_tail o xs j y q) e)
+  one_place xs i j x y h p q e =
+      elim (cases_order i j) [
+        | inl same ↦ same
+        | inr (inl before) ↦ absurd (h i j x before q.0 (grind (arith, common_steps)))
+        | inr (inr behind) ↦ absurd (h j i x behind p.0 (grind (arith, common_steps)))
+      ]
 
   -- two orders show one side and one party
   abbrev pub SameFace : O → O → Type 0
@@ -65,23 +64,11 @@ module _ {O : Type 0} (kind : Kind O) where
 
   -- a reduced order keeps its side and its party
   pub reduced_keeps : (o : O) (volume : ℕ) → SameFace (kind.reduced o volume) o
-  reduced_keeps o volume = go volume refl (cases_lt (kind.header o).left volume)
-    where
-      same : kind.reduced o volume ≡ o → SameFace (kind.reduced o volume) o
-      same e = (ap (λ x. (kind.header x).side) e, ap (λ x. (kind.header x).party) e)
-
-      go : (n : ℕ) → volume ≡ n → ((kind.header o).left < volume) ⊎ (volume ≤ (kind.header o).left) → SameFace (kind.reduced o volume) o
-      go zero e c = same (kind.keeps o volume (inl e))
-      go (suc n) e (inl over) = same (kind.keeps o volume (inr over))
-      go (suc n) e (inr fits) =
-          let less = kind.reduces o volume (omega arith) fits in
-          (ap (λ h. h.side) less, ap (λ h. h.party) less)
+  reduced_keeps o volume = (grind (arith, kind.keeps o volume, kind.reduces o volume), grind (arith, kind.keeps o volume, kind.reduces o volume))
 
   -- an order keeps its folio through a fill
   pub after_fill_folio : (f : Fill) (o : O) → folio_of (after_fill kind f o) ≡ folio_of o
-  after_fill_folio f o =
-      cond_both (bears f (kind.header o)) (kind.reduced o f.volume) o (λ x. folio_of x ≡ folio_of o)
-      (λ _. ap (λ p. p.folio) (reduced_keeps o f.volume).1) (λ _. refl)
+  after_fill_folio f o = grind (arith, (reduced_keeps o f.volume).1)
 
   -- what holds of each folio holds of each after a fill
   pub settled_folios : (P : ℕ → Type 0) (f : Fill) (xs : List O) → All (λ x. P (folio_of x)) xs → All (λ x. P (folio_of x)) (settled kind f xs)
@@ -92,12 +79,12 @@ module _ {O : Type 0} (kind : Kind O) where
 
   -- what relates the folios relates them after a fill
   pub settled_pairwise : (R : ℕ → ℕ → Type 0) (f : Fill) (xs : List O) → Pairwise R xs → Pairwise R (settled kind f xs)
-  settled_pairwise R f [] h = tt
-  settled_pairwise R f (o ∷ xs) h =
-      let rest : Pairwise R (settled kind f xs) = settled_pairwise R f xs h.1 in
-      let first : All (λ x. R (folio_of (after_fill kind f o)) (folio_of x)) (settled kind f xs) =
-      subst (λ n. All (λ x. R n (folio_of x)) (settled kind f xs)) (sym (after_fill_folio f o)) (settled_folios (R (folio_of o)) f xs h.0) in
-      cond_both (something_left kind (after_fill kind f o)) (after_fill kind f o ∷ settled kind f xs) (settled kind f xs) (Pairwise R) (λ _. (first, rest)) (λ _. rest)
+  settled_pairwise R f xs h =
+      let g = after_fill kind f in
+      AllPairs-filter (λ x y. R (folio_of x) (folio_of y)) (something_left kind) (map g xs)
+      (λ i j d lt within.
+      rw (get_or-map g xs i d d (omega (arith, length-map xs g)), get_or-map g xs j d d (omega (arith, length-map xs g)), after_fill_folio f, after_fill_folio f)
+      (h i j d lt (omega (arith, length-map xs g))))
 
   -- each order that stays after a fill has something left
   pub settled_live : (f : Fill) (xs : List O) → Live (settled kind f xs)
@@ -119,26 +106,18 @@ module _ {O : Type 0} (kind : Kind O) where
   all_settled_sound highest [] xs sound = sound
   all_settled_sound highest (f ∷ fs) xs sound = all_settled_sound highest fs (settled kind f xs) (settled_sound highest f xs sound)
 
-  -- what relates the folios relates those of fewer orders
-  pub kept_pairwise : (R : ℕ → ℕ → Type 0) (p : O → Bool) (xs : List O) → Pairwise R xs → Pairwise R (filter p xs)
-  kept_pairwise R p [] h = tt
-  kept_pairwise R p (o ∷ xs) h =
-      cond_both (p o) (o ∷ filter p xs) (filter p xs) (Pairwise R)
-      (λ _. (all_kept_by p (λ x. R (folio_of o) (folio_of x)) xs h.0, kept_pairwise R p xs h.1)) (λ _. kept_pairwise R p xs h.1)
-
   -- some orders may go
   pub kept_sound : (highest : ℕ) (p : O → Bool) (xs : List O) → Sound highest xs → Sound highest (filter p xs)
   kept_sound highest p xs sound =
       record {
-        rising = kept_pairwise ◌<◌ p xs sound.rising;
+        rising = AllPairs-filter (λ x y. folio_of x < folio_of y) p xs sound.rising;
         below = all_kept_by p (λ o. folio_of o ≤ highest) xs sound.below;
         live = all_kept_by p (λ o. 0 < (kind.header o).left) xs sound.live;
       }
 
   -- a folio above all joins at the end
   pub rising_push : (xs : List O) (o : O) → Rising xs → All (λ x. folio_of x < folio_of o) xs → Rising (xs ++ (o ∷ []))
-  rising_push [] o h below = (tt, tt)
-  rising_push (x ∷ xs) o h below = (All-push (λ y. folio_of x < folio_of y) xs o h.0 below.0, rising_push xs o h.1 below.1)
+  rising_push xs o h below = all_pairs_push (λ x y. folio_of x < folio_of y) xs o h (λ k d within. All-get_or (λ x. folio_of x < folio_of o) xs k d within below)
 
   -- the highest folio may rise
   pub raised_sound : (low high : ℕ) (xs : List O) → low ≤ high → Sound low xs → Sound high xs

@@ -1,8 +1,8 @@
 -- What holds after one call if it held before.
-use Rattle.std.proofs.Common.{◌≡◌, ℕ, ◌+◌, Bool, true, cond, eqb, List, [], ◌∷◌, ◌++◌, Some, None, sum_by, filter, Option, sym, refl, ap, ◌∙◌, subst, inl, inr, arith}
-use Rattle.std.proofs.ByRecursion.{All-weaker}
+use Rattle.std.proofs.Common.{◌≡◌, ℕ, suc, ◌+◌, Bool, true, cond, eqb, List, [], ◌∷◌, ◌++◌, Some, None, sum_by, filter, Option, sym, refl, ap, subst, inl, inr, arith}
 use Rattle.std.proofs.lemmas.List.Sums.{sum_by-cons, sum_by_push}
-use Rattle.std.proofs.lemmas.Bool.{cases_Bool, cond-false, cond-true, eqb-true, ne_eqb, not_from_false, not_from_true}
+use Rattle.std.proofs.lemmas.Bool.{cases_Bool}
+use Rattle.std.proofs.lemmas.Bool.Decides.{nat_tests}
 use Rattle.base.specs.declared.Side.{Side}
 use Rattle.base.specs.declared.Side.TheVariants.{Buy, Sell}
 use Rattle.orders.specs.declared.trade.Fill.{Fill}
@@ -16,7 +16,7 @@ use Rattle.rules.specs.Day.{Event}
 use Rattle.rules.specs.Promises.{AllInTurn, FillsInTurn, NoPairCanTrade, cancelled_by, entered_by, filled_under, fills_of, left_under, resting_volume, shows, taken_out}
 use Rattle.rules.specs.Questions.{State, order_of}
 use Rattle.law.proofs.Asked.{cross_accepted, entry_accepted}
-use Rattle.law.proofs.Places.{kept_all, place_kept}
+use Rattle.law.proofs.Places.{all_from_places, kept_all, place_kept}
 use Rattle.law.proofs.Sound.{Apart, Sound, all_settled_sound, apart_from_rising, folio_of, kept_sound, pushed_sound, raised_sound}
 use Rattle.law.proofs.Sweeps.{swept_comes_to}
 
@@ -47,23 +47,17 @@ module _ {O : Type 0} (kind : Kind O) where
   cancel_balance cancels o (x ∷ xs) apart found folio side =
       elim (cases_Bool (eqb (folio_of kind x) cancels)) [
         | inl same ↦
-            let here : Some x ≡ Some o = sym (cond-true (eqb (folio_of kind x) cancels) (Some x) (order_of kind cancels xs) same) ∙ found in
-            let it : x ≡ o = cc in
-            let gone : filter (other_folio kind cancels) (x ∷ xs) ≡ filter (other_folio kind cancels) xs =
-            cond-false (other_folio kind cancels x) (x ∷ filter (other_folio kind cancels) xs) (filter (other_folio kind cancels) xs) (not_from_true (eqb (folio_of kind x) cancels) same) in
             let others : filter (other_folio kind cancels) xs ≡ xs =
             kept_all (other_folio kind cancels) xs
-            (All-weaker (λ y. folio_of kind x ≡ folio_of kind y → ⊥) (λ y. other_folio kind cancels y ≡ true)
-            (λ y ne. not_from_false (eqb (folio_of kind y) cancels) (ne_eqb (folio_of kind y) cancels (λ e. ne (eqb-true (folio_of kind x) cancels same ∙ sym e)))) xs apart.0) in
-            omega (arith, ap (left_under kind folio side) it, ap (resting_volume kind folio side) (gone ∙ others), sum_by-cons (left_under kind folio side) x xs)
+            (all_from_places (λ y. other_folio kind cancels y ≡ true) xs
+            (λ k y at. grind (arith, nat_tests, same, at.1, apart 0 (suc k) y (omega arith) (omega (arith, at.0))))) in
+            grind (arith, same, found, others, sum_by-cons (left_under kind folio side) x xs)
         | inr differs ↦
-            let later : order_of kind cancels xs ≡ Some o = sym (cond-false (eqb (folio_of kind x) cancels) (Some x) (order_of kind cancels xs) differs) ∙ found in
-            let stays : filter (other_folio kind cancels) (x ∷ xs) ≡ x ∷ filter (other_folio kind cancels) xs =
-            cond-true (other_folio kind cancels x) (x ∷ filter (other_folio kind cancels) xs) (filter (other_folio kind cancels) xs) (not_from_false (eqb (folio_of kind x) cancels) differs) in
-            omega (
+            let later : order_of kind cancels xs ≡ Some o = grind (arith, differs, found) in
+            grind (
               arith,
-              cancel_balance cancels o xs apart.1 later folio side,
-              ap (resting_volume kind folio side) stays,
+              differs,
+              cancel_balance cancels o xs (λ i j d lt within. apart (suc i) (suc j) d (omega arith) (omega arith)) later folio side,
               sum_by-cons (left_under kind folio side) x xs,
               sum_by-cons (left_under kind folio side) x (filter (other_folio kind cancels) xs),
             )

@@ -1,74 +1,45 @@
 -- What a sweep comes to: the fills settled one after the other, no pair left, each fill in turn, the volumes balanced.
-use Rattle.std.proofs.Common.{◌≡◌, ℕ, ◌+◌, ◌-◌, ◌<◌, ◌≤◌, Bool, true, false, cond, ◌&&◌, eqb, List, Some, None, sum_by, Option, sym, refl, ap, ◌∙◌, subst, inl, inr, arith}
+use Rattle.std.proofs.Common.{◌≡◌, ℕ, ◌+◌, ◌<◌, ◌≤◌, true, false, List, Some, None, sum_by, Option, sym, refl, ap, subst, arith}
 use Rattle.std.proofs.lemmas.List.Sums.{sum_by-cons}
-use Rattle.std.proofs.lemmas.Bool.{and_parts, and_right, both_ways, cases_Bool, cond_both, cond-false, cond-true, eq-eqb, eqb-true, ltb-false}
+use Rattle.std.proofs.lemmas.Bool.Decides.{nat_tests}
 use Rattle.base.specs.declared.Side.{Side}
 use Rattle.base.specs.declared.Side.TheVariants.{Buy, Sell}
 use Rattle.orders.specs.declared.trade.Fill.{Fill}
-use Rattle.orders.specs.Kind.{Kind, less}
+use Rattle.orders.specs.Kind.{Kind}
 use Rattle.orders.specs.Ranking.{Ranking}
 use Rattle.rules.specs.Pairs.{First, Place, Still, buys, can_trade, sells}
-use Rattle.rules.specs.Sweep.{Sweep, after_fill, bears, ends, fill_of, fills, party_on, settled, something_left}
+use Rattle.rules.specs.Sweep.{Sweep, after_fill, ends, fill_of, fills, party_on, settled, something_left}
 use Rattle.rules.specs.Calls.{Swept, all_settled}
-use Rattle.rules.specs.Promises.{AllInTurn, NoPairCanTrade, filled_under, is_on, left_under, resting_volume, shows}
+use Rattle.rules.specs.Promises.{AllInTurn, NoPairCanTrade, filled_under, is_on, left_under, resting_volume}
 use Rattle.law.proofs.Places.{all_place, sum_by_but_one, sum_by_kept_map}
 use Rattle.law.proofs.Sound.{Apart, apart_from_rising, folio_of, Live, one_place, reduced_keeps, settled_live, settled_pairwise, Sound}
 use Rattle.law.proofs.Turns.{first_in_turn}
 
 -- what is on a side shows that side
 on_side : (side other : Side) → is_on side other ≡ true → other ≡ side
-on_side Buy Buy e = refl
-on_side Buy Sell e = absurd (both_ways false refl e)
-on_side Sell Buy e = absurd (both_ways false refl e)
-on_side Sell Sell e = refl
-
--- a volume that counts, less a part of it, and the part
-split_volume : (t on : Bool) (n part : ℕ) → on ≡ true → part ≤ n → cond (t && on) n 0 ≡ cond (t && on) (n - part) 0 + cond t part 0
-split_volume true true n part e le = omega arith
-split_volume true false n part e le = absurd (both_ways false refl e)
-split_volume false true n part e le = refl
-split_volume false false n part e le = refl
+on_side side other e = grind arith
 
 module _ {O : Type 0} (kind : Kind O) where
   -- of two orders that can trade the first is a buy and the second a sell
   pub pair_sides : (price : ℕ) (b s : O) → can_trade kind price b s ≡ true → ((kind.header b).side ≡ Buy) × ((kind.header s).side ≡ Sell)
-  pair_sides price b s can =
-      let both = and_parts (buys (kind.header b).side) (sells (kind.header s).side) (and_parts _ _ can).0 in
-      (on_side Buy (kind.header b).side both.0, on_side Sell (kind.header s).side both.1)
+  pair_sides price b s can = (grind arith, grind arith)
 
   -- an order on the other side counts nothing
   other_side : (folio : ℕ) (side : Side) (o : O) → is_on side (kind.header o).side ≡ false → left_under kind folio side o ≡ 0
-  other_side folio side o off =
-      cond-false (shows folio side (kind.header o)) (kind.header o).left 0 (and_right (eqb (folio_of kind o) folio) (is_on side (kind.header o).side) off)
+  other_side folio side o off = grind arith
 
   -- an order with nothing left counts nothing
   nothing_left : (folio : ℕ) (side : Side) (o : O) → something_left kind o ≡ false → left_under kind folio side o ≡ 0
-  nothing_left folio side o none =
-      cond_both (shows folio side (kind.header o)) (kind.header o).left 0 (λ n. n ≡ 0) (λ _. omega (arith, ltb-false 0 (kind.header o).left none)) (λ _. refl)
+  nothing_left folio side o none = grind (arith, nat_tests)
 
   module _ (f : Fill) (side : Side) (o : O) (on : is_on side (kind.header o).side ≡ true) (its : party_on f side ≡ (kind.header o).party) where
     -- the order that a fill bears on a side has the fill's volume less
     own_volume : 1 ≤ f.volume → f.volume ≤ (kind.header o).left → (folio : ℕ) → left_under kind folio side o ≡ left_under kind folio side (after_fill kind f o) + filled_under folio side f
-    own_volume some fits folio =
-        let born : bears f (kind.header o) ≡ true =
-        eq-eqb (party_on f (kind.header o).side).folio (folio_of kind o) (ap (λ p. p.folio) (ap (party_on f) (on_side side (kind.header o).side on) ∙ its)) in
-        let after : kind.header (after_fill kind f o) ≡ less (kind.header o) f.volume =
-        ap kind.header (cond-true (bears f (kind.header o)) (kind.reduced o f.volume) o born) ∙ kind.reduces o f.volume some fits in
-        let now_left : left_under kind folio side (after_fill kind f o) ≡ cond (shows folio side (kind.header o)) ((kind.header o).left - f.volume) 0 =
-        ap (λ h. cond (shows folio side h) h.left 0) after in
-        let filled : filled_under folio side f ≡ cond (eqb (folio_of kind o) folio) f.volume 0 =
-        ap (λ p. cond (eqb p.folio folio) f.volume 0) its in
-        omega (arith, split_volume (eqb (folio_of kind o) folio) (is_on side (kind.header o).side) (kind.header o).left f.volume on fits)
+    own_volume some fits folio = grind (arith, nat_tests, kind.reduces o f.volume some fits, on_side side (kind.header o).side on)
 
     -- an order with another folio has as much under the side as before
     other_volume : (folio : ℕ) (y : O) → (folio_of kind y ≡ folio_of kind o → ⊥) → left_under kind folio side y ≡ left_under kind folio side (after_fill kind f y)
-    other_volume folio y differs =
-        cond_both (bears f (kind.header y)) (kind.reduced y f.volume) y (λ z. left_under kind folio side y ≡ left_under kind folio side z)
-        (λ born. elim (cases_Bool (is_on side (kind.header y).side)) [
-          | inl also ↦ absurd (differs (sym (eqb-true (party_on f (kind.header y).side).folio (folio_of kind y) born) ∙ ap (λ p. p.folio) (ap (party_on f) (on_side side (kind.header y).side also) ∙ its)))
-          | inr off ↦ other_side folio side y off ∙ sym (other_side folio side (kind.reduced y f.volume) (ap (is_on side) (reduced_keeps kind y f.volume).0 ∙ off))
-        ])
-        (λ _. refl)
+    other_volume folio y differs = grind (arith, nat_tests, reduced_keeps kind y f.volume, on_side side (kind.header y).side)
 
     -- under one side a fill moves its volume from what rests to what is filled
     side_balance : (xs : List O) (i : ℕ) → Apart kind xs → Place xs i o → 1 ≤ f.volume → f.volume ≤ (kind.header o).left → (folio : ℕ) → resting_volume kind folio side xs ≡ filled_under folio side f + resting_volume kind folio side (settled kind f xs)

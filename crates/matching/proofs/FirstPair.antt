@@ -1,7 +1,7 @@
 -- The first pair of the first rows, one row more.
-use Rattle.std.proofs.Common.{◌≡◌, ℕ, ◌+◌, ◌<◌, ◌≤◌, true, false, ◌⊎◌, List, length, Some, None, Option, sym, ◌∙◌, subst, inl, inr, arith}
-use Rattle.std.proofs.lemmas.Bool.{both_ways, cases_lt, cond_both}
-use Rattle.orders.specs.declared.trade.Header.{Header}
+use Rattle.std.proofs.Common.{◌≡◌, ℕ, ◌+◌, ◌<◌, ◌≤◌, true, false, ◌⊎◌, List, length, Some, None, MatchOption, Option, ◌∙◌, subst, inl, inr, arith}
+use Rattle.std.specs.Option.{option_map}
+use Rattle.std.proofs.lemmas.Bool.{both_ways, cases_lt, cond_both, false_from_ne_true}
 use Rattle.orders.specs.Kind.{Kind}
 use Rattle.orders.specs.Ranking.{Ranking}
 use Rattle.rules.specs.Pairs.{can_trade, comes_before, Place, Still, First}
@@ -9,7 +9,7 @@ use Rattle.law.proofs.Places.{same_place}
 use Rattle.law.proofs.Turns.{sells_compared}
 use Rattle.matching.specs.declared.search.Candidate.{Candidate}
 use Rattle.matching.specs.Rows.{BestPair, FirstOf, RowPair, chosen, earlier}
-use Rattle.matching.proofs.Orders.{not_so, rows_transitive, row_raised}
+use Rattle.matching.proofs.Orders.{rows_transitive, row_raised}
 
 module _ {O : Type 0} (kind : Kind O) (rank : Ranking) (price : ℕ) (xs : List O) where
   -- a row below n + 1 is one below n, or n with the order there
@@ -22,15 +22,9 @@ module _ {O : Type 0} (kind : Kind O) (rank : Ranking) (price : ℕ) (xs : List 
             inr (e, same_place xs n c order (subst (λ (i : ℕ). Place xs i c) e p) there)
       ]
 
-  -- a row without a pair
-  none_more : (n : ℕ) (order : O) (best : Option Candidate) → Place xs n order → ((l : ℕ) (t : O) → Place xs l t → can_trade kind price order t ≡ false) → FirstOf kind rank price xs n best → FirstOf kind rank price xs (n + 1) best
-  none_more n order None there row first = λ k l c t below p q.
-      elim (row_cases n k order c there below p) [
-        | inl under ↦ first k l c t under p q
-        | inr here ↦ subst (λ (o : O). can_trade kind price o t ≡ false) (sym here.1) (row l t q)
-      ]
-  none_more n order (Some best) there row first =
-      let up : best.buy < n + 1 = omega (arith, first.above) in
+  -- the best stays where no pair of row n comes before it
+  stays : (n : ℕ) (order : O) (best : Candidate) → Place xs n order → BestPair kind rank price xs n best → ((l : ℕ) (t : O) → Place xs l t → can_trade kind price order t ≡ true → comes_before rank n (kind.header order) (kind.header t) best.buy best.buyer best.seller ≡ false) → BestPair kind rank price xs (n + 1) best
+  stays n order best there first row =
       record {
         buy = first.buy;
         sell = first.sell;
@@ -38,86 +32,66 @@ module _ {O : Type 0} (kind : Kind O) (rank : Ranking) (price : ℕ) (xs : List 
         sell_there = first.sell_there;
         buyer = first.buyer;
         seller = first.seller;
-        above = up;
+        above = omega (arith, first.above);
         trades = first.trades;
         none_before = λ k l c t below p q can.
             elim (row_cases n k order c there below p) [
               | inl under ↦ first.none_before k l c t under p q can
-              | inr here ↦
-                  absurd (both_ways (can_trade kind price c t) (subst (λ (o : O). can_trade kind price o t ≡ false) (sym here.1) (row l t q)) can)
+              | inr here ↦ rw (here.0, here.1) (row l t q (rw here.1 at can))
             ];
       }
+
+  -- a row without a pair
+  none_more : (n : ℕ) (order : O) (best : Option Candidate) → Place xs n order → ((l : ℕ) (t : O) → Place xs l t → can_trade kind price order t ≡ false) → FirstOf kind rank price xs n best → FirstOf kind rank price xs (n + 1) best
+  none_more n order None there row first = λ k l c t below p q.
+      elim (row_cases n k order c there below p) [ inl under ↦ first k l c t under p q | inr here ↦ rw here.1 (row l t q) ]
+  none_more n order (Some best) there row first =
+      stays n order best there first (λ l t q can. absurd (both_ways (can_trade kind price order t) (row l t q) can))
 
   -- the first pair of row n, once no pair of an earlier row comes before it
   taken : (n : ℕ) (order : O) (new : Candidate) → Place xs n order → RowPair kind rank price xs n order (Some new) → ((k l : ℕ) (c t : O) → k < n → Place xs k c → Place xs l t → can_trade kind price c t ≡ true → comes_before rank k (kind.header c) (kind.header t) n (kind.header order) new.seller ≡ false) → BestPair kind rank price xs (n + 1) new
   taken n order new there row before =
       let best = row.2 in
-      let up : new.buy < n + 1 = omega (arith, row.0) in
       record {
         buy = order;
         sell = best.sell;
-        buy_there = subst (λ (i : ℕ). Place xs i order) (sym row.0) there;
+        buy_there = rw row.0 there;
         sell_there = best.there;
         buyer = row.1;
         seller = best.shows;
-        above = up;
+        above = omega (arith, row.0);
         trades = best.trades;
         none_before = λ k l c t below p q can.
-            subst (λ (i : ℕ). comes_before rank k (kind.header c) (kind.header t) i new.buyer new.seller ≡ false) (sym row.0)
-            (subst (λ (h : Header). comes_before rank k (kind.header c) (kind.header t) n h new.seller ≡ false) (sym row.1)
+            rw (row.0, row.1)
             (elim (row_cases n k order c there below p) [
               | inl under ↦ before k l c t under p q can
-              | inr here ↦
-                  let can_here : can_trade kind price order t ≡ true = subst (λ (o : O). can_trade kind price o t ≡ true) here.1 can in
-                  subst (λ (i : ℕ). comes_before rank i (kind.header c) (kind.header t) n (kind.header order) new.seller ≡ false) (sym here.0)
-                  (subst (λ (o : O). comes_before rank n (kind.header o) (kind.header t) n (kind.header order) new.seller ≡ false) (sym here.1)
-                  (sells_compared rank n (kind.header order) (kind.header t) new.seller ∙ best.none_before l t q can_here))
-            ]));
+              | inr here ↦ rw (here.0, here.1) (sells_compared rank n (kind.header order) (kind.header t) new.seller ∙ best.none_before l t q (rw here.1 at can))
+            ]);
       }
 
   -- the pair of the row comes before the best so far, and takes its place
   replaced : (n : ℕ) (order : O) (best new : Candidate) → Place xs n order → RowPair kind rank price xs n order (Some new) → BestPair kind rank price xs n best → earlier rank new best ≡ true → BestPair kind rank price xs (n + 1) new
   replaced n order best new there row first sooner =
-      let sooner_here = subst (λ (h : Header). earlier rank (record { buy = new.buy; sell = new.sell; buyer = h; seller = new.seller }) best ≡ true) row.1 sooner in
       taken n order new there row (λ k l c t under p q can.
-      not_so
+      false_from_ne_true
       (comes_before rank k (kind.header c) (kind.header t) n (kind.header order) new.seller)
       (λ before.
       both_ways
       (comes_before rank k (kind.header c) (kind.header t) best.buy best.buyer best.seller)
       (first.none_before k l c t under p q can)
-      (rows_transitive rank k n best.buy (kind.header c) (kind.header t) (kind.header order) new.seller best.buyer best.seller (λ e. omega arith) before sooner_here)))
+      (rows_transitive rank k n best.buy (kind.header c) (kind.header t) (kind.header order) new.seller best.buyer best.seller (λ e. omega arith) before (rw row.1 at sooner))))
 
   -- it does not, and the best stays
-  stays : (n : ℕ) (order : O) (best new : Candidate) → Place xs n order → RowPair kind rank price xs n order (Some new) → BestPair kind rank price xs n best → earlier rank new best ≡ false → BestPair kind rank price xs (n + 1) best
-  stays n order best new there row first later =
-      let later_here = subst (λ (h : Header). earlier rank (record { buy = new.buy; sell = new.sell; buyer = h; seller = new.seller }) best ≡ false) row.1 later in
-      let up : best.buy < n + 1 = omega (arith, first.above) in
-      record {
-        buy = first.buy;
-        sell = first.sell;
-        buy_there = first.buy_there;
-        sell_there = first.sell_there;
-        buyer = first.buyer;
-        seller = first.seller;
-        above = up;
-        trades = first.trades;
-        none_before = λ k l c t below p q can.
-            elim (row_cases n k order c there below p) [
-              | inl under ↦ first.none_before k l c t under p q can
-              | inr here ↦
-                  let can_here : can_trade kind price order t ≡ true = subst (λ (o : O). can_trade kind price o t ≡ true) here.1 can in
-                  subst (λ (i : ℕ). comes_before rank i (kind.header c) (kind.header t) best.buy best.buyer best.seller ≡ false) (sym here.0)
-                  (subst (λ (o : O). comes_before rank n (kind.header o) (kind.header t) best.buy best.buyer best.seller ≡ false) (sym here.1)
-                  (not_so
-                  (comes_before rank n (kind.header order) (kind.header t) best.buy best.buyer best.seller)
-                  (λ before.
-                  both_ways
-                  (earlier rank (record { buy = new.buy; sell = new.sell; buyer = kind.header order; seller = new.seller }) best)
-                  later_here
-                  (row_raised rank n best.buy (kind.header order) (kind.header t) new.seller best.buyer best.seller (λ e. omega (arith, first.above)) (row.2.none_before l t q can_here) before))))
-            ];
-      }
+  not_sooner : (n : ℕ) (order : O) (best new : Candidate) → Place xs n order → RowPair kind rank price xs n order (Some new) → BestPair kind rank price xs n best → earlier rank new best ≡ false → BestPair kind rank price xs (n + 1) best
+  not_sooner n order best new there row first later =
+      stays n order best there first (λ l t q can.
+      false_from_ne_true
+      (comes_before rank n (kind.header order) (kind.header t) best.buy best.buyer best.seller)
+      (λ before.
+      both_ways
+      (earlier rank new best)
+      later
+      (rw row.1 (row_raised rank n best.buy (kind.header order) (kind.header t) new.seller best.buyer best.seller (λ e. omega (arith, first.above)) (row.2.none_before l t q can) before))))
 
   -- one row more
   pub row_more : (n : ℕ) (order : O) (best row : Option Candidate) → Place xs n order → RowPair kind rank price xs n order row → FirstOf kind rank price xs n best → FirstOf kind rank price xs (n + 1) (chosen rank best row)
@@ -131,23 +105,18 @@ module _ {O : Type 0} (kind : Kind O) (rank : Ranking) (price : ℕ) (xs : List 
       (Some best)
       (λ r. FirstOf kind rank price xs (n + 1) r)
       (replaced n order best new there row first)
-      (stays n order best new there row first)
+      (not_sooner n order best new there row first)
 
   -- all rows read
-  pub still : (n : ℕ) → length xs ≤ n → FirstOf kind rank price xs n None → Still kind price xs
-  still n all none i j b s p q = none i j b s (omega (arith, p.0)) p q
-
-  pub first_pair : (n : ℕ) (best : Candidate) → length xs ≤ n → FirstOf kind rank price xs n (Some best) → (b : O) × (s : O) × First kind rank price xs best.buy best.sell b s
-  first_pair n best all first = (
+  pub first_of_all : (n : ℕ) (best : Option Candidate) → length xs ≤ n → FirstOf kind rank price xs n best → MatchOption {T = ℕ × ℕ} (option_map (λ pair. (pair.buy, pair.sell)) best) (Still kind price xs) (λ p. (b : O) × (s : O) × First kind rank price xs p.0 p.1 b s)
+  first_of_all n None all none = λ i j b s p q. none i j b s (omega (arith, p.0)) p q
+  first_of_all n (Some best) all first = (
     first.buy,
     first.sell,
     record {
       buy_there = first.buy_there;
       sell_there = first.sell_there;
       trades = first.trades;
-      none_before = λ k l c t p q can.
-          subst (λ (h : Header). comes_before rank k (kind.header c) (kind.header t) best.buy h (kind.header first.sell) ≡ false) first.buyer
-          (subst (λ (h : Header). comes_before rank k (kind.header c) (kind.header t) best.buy best.buyer h ≡ false) first.seller
-          (first.none_before k l c t (omega (arith, p.0)) p q can));
+      none_before = λ k l c t p q can. rw (← first.buyer, ← first.seller) (first.none_before k l c t (omega (arith, p.0)) p q can);
     },
   )

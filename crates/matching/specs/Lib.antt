@@ -1,2 +1,3 @@
+pub mod ClosingUp
 pub mod Rows
 pub mod Sweeping

@@ -3,7 +3,7 @@ use Rattle.std.specs.Prelude.{◌≡◌, ℕ, ◌<◌, Bool, true, false, cond, 
 use Rattle.orders.specs.declared.trade.Header.{Header}
 use Rattle.orders.specs.Kind.{Kind}
 use Rattle.orders.specs.Ranking.{Ranking}
-use Rattle.rules.specs.Pairs.{can_trade, comes_before, one_house, stands_before, Place}
+use Rattle.rules.specs.Pairs.{can_trade, comes_before, one_house, own_first, stands_before, Place}
 use Rattle.matching.specs.declared.search.Candidate.{Candidate}
 
 -- a sell is better for a buy than the best so far, or the first
@@ -14,8 +14,7 @@ better rank buy sell (Some best) = stands_before rank buy sell best.1
 -- the pair of a later row comes before the best of the rows so far: of one house first, then the buy that is before
 abbrev pub earlier : Ranking → Candidate → Candidate → Bool
 earlier rank new best =
-    cond (one_house new.buyer new.seller) (cond (one_house best.buyer best.seller) (rank.before new.buyer best.buyer) true)
-    (cond (one_house best.buyer best.seller) false (rank.before new.buyer best.buyer))
+    own_first (one_house new.buyer new.seller) (one_house best.buyer best.seller) (rank.before new.buyer best.buyer)
 
 -- the better of the best so far and the pair of a row, where there is one
 abbrev pub chosen : Ranking → Option Candidate → Option Candidate → Option Candidate

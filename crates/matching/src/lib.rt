@@ -2,5 +2,6 @@
 // Written once for every kind of order and every priority.
 #![tactic(auto)]
 
+pub mod closing_up;
 pub mod search;
 pub mod sweep;

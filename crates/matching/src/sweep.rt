@@ -1,8 +1,9 @@
 // The sweep: as long as some pair can trade, the first such pair makes a fill.
 ghost use Rattle.std.specs.Prelude.{◌≡◌, ◌≤◌, length, take};
-ghost use Rattle.rules.specs.Sweep.{after_fill, settled};
+ghost use Rattle.rules.specs.Sweep.{after_fill, fill_of, settled};
 ghost use Rattle.matching.specs.Sweeping.{FillsFirst, SweepsTo};
 
+use crate::closing_up::close_up;
 use crate::search::find_pair;
 use base::Side;
 use orders::order::Order;
@@ -33,69 +34,59 @@ fn after_fill<O: Order>(order: &O, fill: &Fill) -> O
 }
 
 // Reduces both orders of a fill, and closes up where one has nothing left. Answers how many then rest.
-fn settle<O: Order>(table: &mut [O], resting: usize, fill: &Fill) -> usize
-    requires { resting ≤ length table.old }
-    ensures front { take result table.new ≡ settled O.kind fill.now (take resting table.old) }
-    ensures bound { result ≤ resting }
+fn settle<O: Order>(orders: &mut [O], fill: &Fill) -> usize
+    ensures front { take result orders.new ≡ settled O.kind fill.now orders.old }
+    ensures bound { result ≤ length orders.old }
 {
-    let mut end = 0;
-    for place in 0..resting {
-        let order = after_fill(&table[place], fill);
-        if order.header().left > 0 {
-            table[end] = order;
-            end += 1;
-        }
-    }
-    end
+    close_up(orders, |order| {
+        let after = after_fill(order, fill);
+        (after.header().left > 0).then_some(after)
+    })
 }
 
-// Fills the first pair of the resting orders; answers the fill and how many then rest, or none where no pair can trade.
-fn fill_first<O: Order, P: Priority>(
-    table: &mut [O],
-    resting: usize,
-    price: u32,
-) -> Option<(Fill, usize)>
-    requires { resting ≤ length table.old }
-    ensures { FillsFirst O.kind P.ranking price (take resting table.old) table.old table.new result }
+// What a pair makes at a price: both orders' parties, and the smaller of the two volumes left.
+fn fill_of<O: Order>(buy: &O, sell: &O, price: u32) -> Fill
+    ensures { result ≡ fill_of O.kind price buy.now sell.now }
 {
-    let (buy, sell) = match find_pair::<O, P>(&table[0..resting], price) {
-        None => return None,
-        Some(pair) => pair,
-    };
-    let buyer = table[buy].header();
-    let seller = table[sell].header();
-    let fill = Fill {
+    let buyer = buy.header();
+    let seller = sell.header();
+    Fill {
         price,
         volume: buyer.left.min(seller.left),
         buyer: buyer.party,
         seller: seller.party,
-    };
-    let left = settle(table, resting, &fill);
+    }
+}
+
+// Fills the first pair of the orders; answers the fill and how many then rest, or none where no pair can trade.
+fn fill_first<O: Order, P: Priority>(orders: &mut [O], price: u32) -> Option<(Fill, usize)>
+    ensures { FillsFirst O.kind P.ranking price orders.old orders.new result }
+{
+    let (buy, sell) = find_pair::<O, P>(orders, price)?;
+    let fill = fill_of(&orders[buy], &orders[sell], price);
+    let left = settle(orders, &fill);
     Some((fill, left))
 }
 
-// Sweeps the first orders of the table at a price. The fills stand at the tape's front in the order made, and what
-// still rests at the table's. None, and nothing is altered, where the tape has fewer places than one less than rest.
+// Sweeps the resting orders at a price. The fills stand at the tape's front in the order made, and what still rests at
+// the orders'. None, and nothing is altered, where the tape has fewer places than one less than rest.
 pub fn sweep<O: Order, P: Priority>(
-    table: &mut [O],
-    resting: usize,
+    orders: &mut [O],
     price: u32,
     tape: &mut [Fill],
 ) -> Option<Swept>
-    ensures { SweepsTo O.kind P.ranking price (take resting table.old) table.old tape.old table.new tape.new result }
+    ensures { SweepsTo O.kind P.ranking price orders.old tape.old orders.new tape.new result }
 {
-    let mut rests = resting.min(table.len());
-    if tape.len() < rests.saturating_sub(1) {
+    let mut resting = orders.len();
+    if tape.len() < resting.saturating_sub(1) {
         return None;
     }
     let mut fills = 0;
-    while let Some((fill, left)) = fill_first::<O, P>(table, rests, price) {
+    // By count: a `for` over the tape's places would want a second exit, and there a reason why no pair is left.
+    while let Some((fill, left)) = fill_first::<O, P>(&mut orders[..resting], price) {
         tape[fills] = fill;
         fills += 1;
-        rests = left;
+        resting = left;
     }
-    Some(Swept {
-        fills,
-        resting: rests,
-    })
+    Some(Swept { fills, resting })
 }

@@ -17,11 +17,13 @@ sells Sell = true
 abbrev pub one_house : Header → Header → Bool
 one_house a b = a.party.house == b.party.house
 
+-- what is of one house comes before what is not; of two alike in this, the rank between them decides
+abbrev pub own_first : Bool → Bool → Bool → Bool
+own_first own other ranked = cond own (cond other ranked true) (cond other false ranked)
+
 -- for an order, of two opposite ones: one of its own house stands before one of another house; otherwise the ranking decides
 abbrev pub stands_before : Ranking → Header → Header → Header → Bool
-stands_before rank order a b =
-    cond (one_house order a) (cond (one_house order b) (rank.before a b) true)
-    (cond (one_house order b) false (rank.before a b))
+stands_before rank order a b = own_first (one_house order a) (one_house order b) (rank.before a b)
 
 -- the pair of buy b, at the place i, and sell s comes before the pair of buy c, at the place k, and sell t:
 -- pairs of one house come first, then the buy that is before, then, for the same buy, the sell that is before
@@ -29,9 +31,7 @@ abbrev pub buy_then_sell : Ranking → ℕ → Header → Header → ℕ → Hea
 buy_then_sell rank i b s k c t = rank.before b c || (i == k && rank.before s t)
 
 abbrev pub comes_before : Ranking → ℕ → Header → Header → ℕ → Header → Header → Bool
-comes_before rank i b s k c t =
-    cond (one_house b s) (cond (one_house c t) (buy_then_sell rank i b s k c t) true)
-    (cond (one_house c t) false (buy_then_sell rank i b s k c t))
+comes_before rank i b s k c t = own_first (one_house b s) (one_house c t) (buy_then_sell rank i b s k c t)
 
 -- the order that stands at a place of a list
 abbrev pub Place : {X : Type 0} → List X → ℕ → X → Type 0
