@@ -2,28 +2,15 @@
 use Rattle.std.proofs.Common.{◌≡◌, ℕ, ◌+◌, ◌*◌, ◌<◌, ◌≤◌, List, [], ◌∷◌, ◌++◌, length, get_or, take, drop, sym, refl, ap, ◌∙◌, arith, take-add}
 use Rattle.std.specs.List.{flat_map}
 use Rattle.std.proofs.lemmas.List.FromFn.{fill_by_all}
-use Rattle.std.proofs.lemmas.List.{append_assoc, drop-append-le, drop_at, drop-drop, drop_more, get_or-drop, length-append, length-drop, take_all, take-append-drop}
-use Rattle.base.specs.Bytes.{bytes4, number2, number4}
+use Rattle.std.proofs.lemmas.List.{append_assoc, drop-append-le, drop_at, drop-drop, drop_more, length-append, length-drop, take_all, take-append-drop}
+use Rattle.base.specs.Bytes.{bytes4, number4}
 use Rattle.orders.specs.declared.trade.Fill.{Fill}
 use Rattle.tape.specs.Asked.{fills_in}
 use Rattle.tape.specs.Block.{LaysOut, block, block_length, fill_at, what_at, what_entry, who_at, who_entry}
 use Rattle.tape.specs.Forms.{Bytes}
 use Rattle.tape.proofs.Entries.{entries_are, entries_from, length_entries}
-use Rattle.tape.proofs.Numbers.{back2, back4, stand2, stand4}
-
-module _ (bs : List ℕ) (at j : ℕ) where
-  moved : (k : ℕ) → get_or bs (at + j + k) 0 ≡ get_or (drop at bs) (j + k) 0
-  moved k = ap (λ n. get_or bs n 0) (let e : at + j + k ≡ at + (j + k) = omega arith in e) ∙ sym (get_or-drop at bs (j + k) 0)
-
-  moved_here : get_or bs (at + j) 0 ≡ get_or (drop at bs) j 0
-  moved_here = sym (get_or-drop at bs j 0)
-
-  -- a number behind a place is that number of what lies behind it
-  behind2 : number2 bs (at + j) ≡ number2 (drop at bs) j
-  behind2 = rw (moved_here, moved 1) refl
-
-  behind4 : number4 bs (at + j) ≡ number4 (drop at bs) j
-  behind4 = rw (moved_here, moved 1, moved 2, moved 3) refl
+use Rattle.std.proofs.lemmas.Nat.{from_be_bytes-to_be_bytes_2 as back2, from_be_bytes-to_be_bytes_4 as back4}
+use Rattle.tape.proofs.Numbers.{behind2, behind4, stand2, stand4}
 
 -- the numbers of a fill fit their bytes
 pub record Fits (f : Fill) : Type 0 where
@@ -34,9 +21,6 @@ pub record Fits (f : Fill) : Type 0 where
   pub buy_house : f.buyer.house < 65536
   pub sell_house : f.seller.house < 65536
 
-is_fill : (f : Fill) (p v bh bf sh sf : ℕ) → p ≡ f.price → v ≡ f.volume → bh ≡ f.buyer.house → bf ≡ f.buyer.folio → sh ≡ f.seller.house → sf ≡ f.seller.folio → ◌≡◌ {A = Fill} (record { price = p; volume = v; buyer = record { house = bh; folio = bf }; seller = record { house = sh; folio = sf } }) f
-is_fill f p v bh bf sh sf e₁ e₂ e₃ e₄ e₅ e₆ = rw (e₁, e₂, e₃, e₄, e₅, e₆) refl
-
 module _ (fs : List Fill) where
   whos_long : length (flat_map who_entry fs) ≡ 12 * length fs
   whos_long = length_entries who_entry 12 (λ f. refl) fs
@@ -45,19 +29,12 @@ module _ (fs : List Fill) where
   whats_long = length_entries what_entry 8 (λ f. refl) fs
 
   pub block_long : length (block fs) ≡ block_length (length fs)
-  block_long =
-      let a = length-append (flat_map who_entry fs) (flat_map what_entry fs) in
-      let b : length (block fs) ≡ 8 + length (flat_map who_entry fs ++ flat_map what_entry fs) = omega arith in
-      omega (arith, whos_long, whats_long)
+  block_long = grind (arith, whos_long, whats_long, length-append)
 
   module _ (i : ℕ) (d : Fill) (below : i < length fs) where
     -- what lies behind the place of a fill's who-entry, and of its what-entry
     from_who : drop (who_at i) (block fs) ≡ who_entry (get_or fs i d) ++ (flat_map who_entry (drop (i + 1) fs) ++ flat_map what_entry fs)
-    from_who =
-        sym (drop-drop (12 * i) 8 (block fs))
-        ∙ drop-append-le (12 * i) (flat_map who_entry fs) (flat_map what_entry fs) (omega (arith, whos_long))
-        ∙ ap (λ ys. ys ++ flat_map what_entry fs) (entries_from who_entry 12 (λ f. refl) i fs (omega arith) ∙ ap (flat_map who_entry) (drop_more fs i d below))
-        ∙ append_assoc (who_entry (get_or fs i d)) (flat_map who_entry (drop (i + 1) fs)) (flat_map what_entry fs)
+    from_who = grind (arith, whos_long, drop-drop (12 * i) 8 (block fs), drop-append-le (12 * i) (flat_map who_entry fs) (flat_map what_entry fs), entries_from who_entry 12 (λ f. refl) i fs, drop_more fs i d, append_assoc)
 
     from_what : drop (what_at (length fs) i) (block fs) ≡ what_entry (get_or fs i d) ++ flat_map what_entry (drop (i + 1) fs)
     from_what =
@@ -73,15 +50,13 @@ module _ (fs : List Fill) where
         let who = who_at i in
         let what = what_at (length fs) i in
         let here = λ (n : ℕ). let e : n ≡ n + 0 = omega arith in e in
-        sym (
-        is_fill f _ _ _ _ _ _
-        (behind4 bs what 4 ∙ ap (λ ys. number4 ys 4) from_what ∙ back4 f.price fits.price)
-        (ap (number4 bs) (here what) ∙ behind4 bs what 0 ∙ ap (λ ys. number4 ys 0) from_what ∙ back4 f.volume fits.volume)
-        (behind2 bs who 8 ∙ ap (λ ys. number2 ys 8) from_who ∙ back2 f.buyer.house fits.buy_house)
-        (ap (number4 bs) (here who) ∙ behind4 bs who 0 ∙ ap (λ ys. number4 ys 0) from_who ∙ back4 f.buyer.folio fits.buy_folio)
-        (behind2 bs who 10 ∙ ap (λ ys. number2 ys 10) from_who ∙ back2 f.seller.house fits.sell_house)
-        (behind4 bs who 4 ∙ ap (λ ys. number4 ys 4) from_who ∙ back4 f.seller.folio fits.sell_folio)
-        )
+        let price = behind4 bs _ what 4 from_what ∙ back4 f.price fits.price in
+        let volume = ap (number4 bs) (here what) ∙ behind4 bs _ what 0 from_what ∙ back4 f.volume fits.volume in
+        let buy_house = behind2 bs _ who 8 from_who ∙ back2 f.buyer.house fits.buy_house in
+        let buy_folio = ap (number4 bs) (here who) ∙ behind4 bs _ who 0 from_who ∙ back4 f.buyer.folio fits.buy_folio in
+        let sell_house = behind2 bs _ who 10 from_who ∙ back2 f.seller.house fits.sell_house in
+        let sell_folio = behind4 bs _ who 4 from_who ∙ back4 f.seller.folio fits.sell_folio in
+        rw (price, volume, buy_house, buy_folio, sell_house, sell_folio) refl
 
   -- the block of fills that fit their bytes lays them out
   pub block_lays_out : length fs ≤ 3000 → ((i : ℕ) (d : Fill) → i < length fs → Fits (get_or fs i d)) → LaysOut (block fs) fs
@@ -140,6 +115,4 @@ module _ (bs : List ℕ) (fs : List Fill) (small : Bytes bs) (laid : LaysOut bs 
       sym (take-append-drop (12 * n) (drop 8 bs))
       ∙ ap (λ ys. take (12 * n) (drop 8 bs) ++ ys) (drop-drop (12 * n) 8 bs ∙ sym (take_all (8 * n) (drop (8 + 12 * n) bs) (omega arith)) ∙ whats)
       ∙ ap (λ ys. ys ++ flat_map what_entry fs) whos in
-      sym (take-append-drop 4 bs)
-      ∙ ap (λ ys. ys ++ drop 4 bs) count
-      ∙ ap (λ ys. bytes4 n ++ ys) (sym (take-append-drop 4 (drop 4 bs)) ∙ ap (λ ys. ys ++ drop 4 (drop 4 bs)) measure ∙ ap (λ ys. bytes4 (block_length n) ++ ys) (drop-drop 4 4 bs ∙ entries))
+      grind (arith, take-append-drop 4 bs, count, take-append-drop 4 (drop 4 bs), measure, drop-drop 4 4 bs, entries)

@@ -1,7 +1,5 @@
 mod Answered
-mod Asking
 mod Entries
-mod Filling
 mod Laid
 mod Numbers
 mod Scan

@@ -1,64 +1,40 @@
 -- A number and its bytes, there and back.
-use Rattle.std.proofs.Common.{◌≡◌, ℕ, ◌+◌, ◌*◌, ◌/◌, ◌%◌, ◌^◌, ◌<◌, ◌≤◌, List, [], ◌∷◌, length, get_or, take, drop, sym, refl, ap, ◌∙◌, arith}
-use Rattle.std.proofs.lemmas.Nat.{shr_below, shr-shr, shr_split}
-use Rattle.std.proofs.lemmas.List.{get_or-drop, length-drop}
+use Rattle.std.proofs.Common.{◌≡◌, ℕ, ◌+◌, ◌<◌, ◌≤◌, List, length, get_or, take, drop, sym, refl, ap, ◌∙◌, arith}
+use Rattle.std.specs.Int.{w16, w32, from_be_bytes}
+use Rattle.std.proofs.lemmas.Nat.{be_bytes_2, be_bytes_4}
+use Rattle.std.proofs.lemmas.List.{drop-drop, get_or-drop, get_or-take, get_or_past, length-drop, length-take-le}
 use Rattle.tape.specs.Forms.{Bytes}
 use Rattle.base.specs.Bytes.{bytes2, bytes4, number2, number4}
 
-pub back2 : (n : ℕ) → n < 65536 → n / 2 ^ 8 % 256 * 2 ^ 8 + n % 256 ≡ n
-back2 n h = omega arith
+module _ (bs : List ℕ) (at : ℕ) where
+  part : (n k : ℕ) → k < n → get_or (take n (drop at bs)) k 0 ≡ get_or bs (at + k) 0
+  part n k h = get_or-take n (drop at bs) k 0 h ∙ get_or-drop at bs k 0
 
--- a number of four bytes by its quotients, each one byte shorter than the one before
-by_quotients : (n p q r : ℕ) → p * 256 + n % 256 ≡ n → q * 256 + p % 256 ≡ p → r * 256 + q % 256 ≡ q → r < 256 → r % 256 * 2 ^ 24 + q % 256 * 2 ^ 16 + p % 256 * 2 ^ 8 + n % 256 ≡ n
-by_quotients n p q r e f g h = let top : r % 256 ≡ r = omega arith in rw top (omega (arith, e, f, g))
+  first : (n : ℕ) → 0 < n → get_or (take n (drop at bs)) 0 0 ≡ get_or bs at 0
+  first n h = part n 0 h ∙ ap (λ k. get_or bs k 0) (let e : at + 0 ≡ at = omega arith in e)
 
-pub back4 : (n : ℕ) → n < 4294967296 → n / 2 ^ 24 % 256 * 2 ^ 24 + n / 2 ^ 16 % 256 * 2 ^ 16 + n / 2 ^ 8 % 256 * 2 ^ 8 + n % 256 ≡ n
-back4 n h =
-    by_quotients n (n / 2 ^ 8) (n / 2 ^ 16) (n / 2 ^ 24) (shr_split n 8)
-    (rw (← shr-shr n 8 8) (shr_split (n / 2 ^ 8) 8))
-    (rw (← shr-shr n 16 8) (shr_split (n / 2 ^ 16) 8))
-    (shr_below n 8 24 h)
+  -- a number is the one that the library reads from its bytes
+  read2 : number2 bs at ≡ from_be_bytes w16 (take 2 (drop at bs))
+  read2 = rw (← first 2 (omega arith), ← part 2 1 (omega arith)) refl
 
-two : (a b : ℕ) → a < 256 → b < 256 → bytes2 (a * 2 ^ 8 + b) ≡ a ∷ b ∷ []
-two a b p q =
-    let x : (a * 2 ^ 8 + b) / 2 ^ 8 % 256 ≡ a = omega arith in
-    let y : (a * 2 ^ 8 + b) % 256 ≡ b = omega arith in
-    rw (x, y) refl
+  read4 : number4 bs at ≡ from_be_bytes w32 (take 4 (drop at bs))
+  read4 = rw (← first 4 (omega arith), ← part 4 1 (omega arith), ← part 4 2 (omega arith), ← part 4 3 (omega arith)) refl
 
-four : (a b c d : ℕ) → a < 256 → b < 256 → c < 256 → d < 256 → bytes4 (a * 2 ^ 24 + b * 2 ^ 16 + c * 2 ^ 8 + d) ≡ a ∷ b ∷ c ∷ d ∷ []
-four a b c d p q r s =
-    let n = a * 2 ^ 24 + b * 2 ^ 16 + c * 2 ^ 8 + d in
-    let x : n / 2 ^ 24 % 256 ≡ a = omega arith in
-    let y : n / 2 ^ 16 % 256 ≡ b = omega arith in
-    let z : n / 2 ^ 8 % 256 ≡ c = omega arith in
-    let w : n % 256 ≡ d = omega arith in
-    rw (x, y, z, w) refl
+  module _ (small : Bytes bs) where
+    small_part : (n k : ℕ) → at + n ≤ length bs → get_or (take n (drop at bs)) k 0 < 256
+    small_part n k h = grind (arith, part n k, small (at + k), get_or_past (take n (drop at bs)) k 0, length-take-le n (drop at bs), length-drop at bs)
 
-front2 : (ys : List ℕ) → 2 ≤ length ys → take 2 ys ≡ get_or ys 0 0 ∷ get_or ys 1 0 ∷ []
-front2 [] h = absurd (omega arith)
-front2 (a ∷ []) h = absurd (omega arith)
-front2 (a ∷ b ∷ ys) h = refl
+    -- the bytes of the number that stands at a place are those that stand there
+    pub stand2 : at + 2 ≤ length bs → bytes2 (number2 bs at) ≡ take 2 (drop at bs)
+    stand2 h = be_bytes_2 (take 2 (drop at bs)) (number2 bs at) (length-take-le 2 (drop at bs) (omega (arith, length-drop at bs))) (λ k. small_part 2 k h) read2
 
-front4 : (ys : List ℕ) → 4 ≤ length ys → take 4 ys ≡ get_or ys 0 0 ∷ get_or ys 1 0 ∷ get_or ys 2 0 ∷ get_or ys 3 0 ∷ []
-front4 [] h = absurd (omega arith)
-front4 (a ∷ []) h = absurd (omega arith)
-front4 (a ∷ b ∷ []) h = absurd (omega arith)
-front4 (a ∷ b ∷ c ∷ []) h = absurd (omega arith)
-front4 (a ∷ b ∷ c ∷ d ∷ ys) h = refl
+    pub stand4 : at + 4 ≤ length bs → bytes4 (number4 bs at) ≡ take 4 (drop at bs)
+    stand4 h = be_bytes_4 (take 4 (drop at bs)) (number4 bs at) (length-take-le 4 (drop at bs) (omega (arith, length-drop at bs))) (λ k. small_part 4 k h) read4
 
-module _ (bs : List ℕ) (at : ℕ) (small : Bytes bs) where
-  here : get_or (drop at bs) 0 0 ≡ get_or bs at 0
-  here = get_or-drop at bs 0 0 ∙ ap (λ k. get_or bs k 0) (let e : at + 0 ≡ at = omega arith in e)
+-- a number behind a place is that number of what lies behind it
+module _ (bs ys : List ℕ) (at j : ℕ) (behind : drop at bs ≡ ys) where
+  pub behind2 : number2 bs (at + j) ≡ number2 ys j
+  behind2 = read2 bs (at + j) ∙ ap (λ zs. from_be_bytes w16 (take 2 zs)) (sym (drop-drop j at bs) ∙ ap (drop j) behind) ∙ sym (read2 ys j)
 
-  -- the bytes of the number that stands at a place are those that stand there
-  pub stand2 : at + 2 ≤ length bs → bytes2 (number2 bs at) ≡ take 2 (drop at bs)
-  stand2 h =
-      let long = length-drop at bs in
-      two (get_or bs at 0) (get_or bs (at + 1) 0) (small at) (small (at + 1))
-      ∙ sym (front2 (drop at bs) (omega arith) ∙ rw (here, get_or-drop at bs 1 0) refl)
-
-  pub stand4 : at + 4 ≤ length bs → bytes4 (number4 bs at) ≡ take 4 (drop at bs)
-  stand4 h =
-      let long = length-drop at bs in
-      four (get_or bs at 0) (get_or bs (at + 1) 0) (get_or bs (at + 2) 0) (get_or bs (at + 3) 0) (small at) (small (at + 1)) (small (at + 2)) (small (at + 3))
-      ∙ sym (front4 (drop at bs) (omega arith) ∙ rw (here, get_or-drop at bs 1 0, get_or-drop at bs 2 0, get_or-drop at bs 3 0) refl)
+  pub behind4 : number4 bs (at + j) ≡ number4 ys j
+  behind4 = read4 bs (at + j) ∙ ap (λ zs. from_be_bytes w32 (take 4 zs)) (sym (drop-drop j at bs) ∙ ap (drop j) behind) ∙ sym (read4 ys j)

@@ -6,11 +6,20 @@ use Rattle.tape.specs.declared.entry.Entry.TheVariants.{Who, What}
 use Rattle.tape.specs.declared.fault.BlockFault.{BlockFault}
 use Rattle.tape.specs.declared.fault.BlockFault.TheVariants.{WhoOutOfRange, WhatOutOfRange}
 use Rattle.tape.specs.Asked.{first_bad, what_in_range, who_in_range}
-use Rattle.tape.specs.Block.{what_at, who_at}
+use Rattle.tape.specs.Block.{what_at, what_entry, who_at, who_entry}
 
 abbrev pub admits : Entry → Fill → Bool
 admits Who f = who_in_range f
 admits What f = what_in_range f
+
+-- the bytes of the entry, and how many they are
+abbrev pub entry_bytes : Entry → Fill → List ℕ
+entry_bytes Who f = who_entry f
+entry_bytes What f = what_entry f
+
+abbrev pub entry_size : Entry → ℕ
+entry_size Who = 12
+entry_size What = 8
 
 abbrev pub entry_fault : Entry → ℕ → ℕ → BlockFault
 entry_fault Who count i = WhoOutOfRange (who_at i)

@@ -1,21 +1,15 @@
 // The two entries that a fill has in a block, and what is asked of each.
-ghost use Rattle.std.specs.Prelude.{◌≡◌, ◌<◌, ◌≤◌};
-ghost use Rattle.tape.specs.Asked.{most_fills, party_in_range};
-ghost use Rattle.tape.specs.Entries.{admits, entry_fault};
+ghost use Rattle.std.specs.Prelude.{◌≡◌, ◌<◌, ◌≤◌, List};
+ghost use Rattle.std.specs.Iterator.{AlwaysYields, UpTo};
+ghost use Rattle.orders.specs.declared.trade.Fill.{Fill};
+ghost use Rattle.tape.specs.Asked.{party_in_range};
+ghost use Rattle.tape.specs.Entries.{admits, entry_fault, judged};
 
 use crate::fault::BlockFault;
+use crate::shape::Shape;
 use base::is_price;
 use orders::limits::{is_folio, is_house, is_volume};
 use orders::trade::{Fill, Party};
-
-// The bytes of the sizes, of a who-entry and of a what-entry.
-pub(crate) const SIZES: usize = 8;
-
-pub(crate) const WHO: usize = 12;
-
-pub(crate) const WHAT: usize = 8;
-
-pub(crate) const MOST_FILLS: usize = 3_000;
 
 // Who traded, or what was traded.
 #[derive(Clone, Copy)]
@@ -32,7 +26,7 @@ fn is_party(party: Party) -> bool
 
 impl Entry {
     // Is this entry of the fill in range?
-    pub(crate) fn admits(self, fill: &Fill) -> bool
+    fn admits(self, fill: &Fill) -> bool
         ensures { result ≡ admits self fill.now }
     {
         match self {
@@ -41,19 +35,34 @@ impl Entry {
         }
     }
 
-    // The fault where this entry of that fill, of so many, is out of range.
-    pub(crate) fn fault(self, count: usize, fill: usize) -> BlockFault
-        requires few { count ≤ most_fills }
-        requires one { fill < count }
-        ensures { result ≡ entry_fault self count fill }
+    // The fault where this entry of the fill of that place is out of range.
+    fn fault(self, shape: Shape, place: usize) -> BlockFault
+        requires { place < shape.count }
+        ensures { result ≡ entry_fault self shape.count place }
     {
         match self {
             Entry::Who => BlockFault::WhoOutOfRange {
-                offset: (SIZES + WHO * fill) as u64,
+                offset: shape.who_at(place) as u64,
             },
             Entry::What => BlockFault::WhatOutOfRange {
-                offset: (SIZES + WHO * count + WHAT * fill) as u64,
+                offset: shape.what_at(place) as u64,
             },
+        }
+    }
+
+    // Is this entry of every fill in range? The fault is that of the first of which it is not.
+    pub(crate) fn judge<I: Iterator<Item = Fill> + Drop>(
+        self,
+        shape: Shape,
+        mut fills: I,
+    ) -> Result<(), BlockFault>
+        requires can { I.can_next fills }
+        requires few { UpTo (I.remaining fills) shape.count }
+        ensures { (fs : List Fill) → AlwaysYields I.next_gives (λ f. f) fills fs → result ≡ judged self fs shape.count }
+    {
+        match fills.position(|fill| !self.admits(&fill)) {
+            Some(place) => Err(self.fault(shape, place)),
+            None => Ok(()),
         }
     }
 }

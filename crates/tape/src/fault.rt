@@ -4,7 +4,7 @@ ghost use Rattle.tape.specs.Faults.{refusal};
 
 use base::{Layer, Refusal};
 
-#[derive(Clone, Copy)]
+#[derive(Clone, Copy, PartialEq, Eq, Debug)]
 pub enum BlockFault {
     TooShort,
     TooManyFills,
@@ -16,12 +16,12 @@ pub enum BlockFault {
     BufferTooShort,
 }
 
-impl BlockFault {
-    // The refusal's number, and the place in the block that it is about.
-    pub fn refusal(self) -> Refusal
-        ensures { result ≡ refusal self }
-    {
-        let (number, place) = match self {
+// The refusal's number, and the place in the block that it is about.
+impl From<BlockFault> for Refusal {
+    ghost from_gives = { λ f r. r ≡ refusal f };
+
+    fn from(fault: BlockFault) -> Refusal {
+        let (number, place) = match fault {
             BlockFault::TooShort => (20, 0),
             BlockFault::TooManyFills => (21, 0),
             BlockFault::WrongLength => (22, 4),

@@ -5,4 +5,5 @@ mod entry;
 pub mod fault;
 pub mod forms;
 pub mod reading;
+pub mod shape;
 pub mod writing;

@@ -1,98 +1,91 @@
 // Reading a block: its sizes, then the range of every entry, then the fills.
-ghost use Rattle.std.specs.Prelude.{◌≡◌, ◌+◌, ◌<◌, ◌≤◌, ◌++◌, length, take, drop, MatchResult};
-ghost use Rattle.base.specs.Bytes.{number2 as two_byte_number, number4 as four_byte_number};
-ghost use Rattle.base.specs.Questions.{first_no};
-ghost use Rattle.tape.specs.Asked.{fills_in, most_fills};
-ghost use Rattle.tape.specs.Read.{MisSized, Read, Sized};
+ghost use Rattle.std.specs.Prelude.{◌≡◌, ◌+◌, ◌<◌, ◌≤◌, length, take, drop, MatchResult};
+ghost use Rattle.tape.specs.Asked.{fills_in};
 ghost use Rattle.tape.specs.Block.{block_length, fill_at};
 ghost use Rattle.tape.specs.Entries.{judged};
-ghost use Rattle.tape.specs.Faults.{refusal};
+ghost use Rattle.tape.specs.Read.{MisSized, Read, Sized};
 
-use crate::entry::{Entry, MOST_FILLS, SIZES, WHAT, WHO};
+use crate::entry::Entry;
 use crate::fault::BlockFault;
+use crate::shape::Shape;
 use orders::trade::{Fill, Party};
 
-// The number in the two bytes from a place on.
-fn number2(bytes: &[u8], at: usize) -> u32
-    requires { at + 2 ≤ length bytes.now }
-    ensures { result ≡ two_byte_number bytes.now at }
-{
-    u32::from_be_bytes([0, 0, bytes[at], bytes[at + 1]])
+// Bytes that are as long as their sizes tell.
+#[derive(Clone, Copy)]
+struct Block<'a> {
+    bytes: &'a [u8],
+    shape: Shape,
+    ghost long: { length bytes.now ≡ block_length shape.count },
 }
 
-// The number in the four bytes from a place on.
-fn number4(bytes: &[u8], at: usize) -> u32
-    requires { at + 4 ≤ length bytes.now }
-    ensures { result ≡ four_byte_number bytes.now at }
-{
-    u32::from_be_bytes([bytes[at], bytes[at + 1], bytes[at + 2], bytes[at + 3]])
-}
+impl<'a> TryFrom<&'a [u8]> for Block<'a> {
+    type Error = BlockFault;
 
-// The fill of that place, from 0, in a block of so many.
-fn fill_at(bytes: &[u8], count: usize, fill: usize) -> Fill
-    requires few { count ≤ most_fills }
-    requires long { length bytes.now ≡ block_length count }
-    requires one { fill < count }
-    ensures { result ≡ fill_at bytes.now count fill }
-{
-    let who = SIZES + WHO * fill;
-    let what = SIZES + WHO * count + WHAT * fill;
-    Fill {
-        price: number4(bytes, what + 4),
-        volume: number4(bytes, what),
-        buyer: Party {
-            house: number2(bytes, who + 8),
-            folio: number4(bytes, who),
-        },
-        seller: Party {
-            house: number2(bytes, who + 10),
-            folio: number4(bytes, who + 4),
-        },
+    ghost try_from_gives = { λ bs r. MatchResult r (λ b. (b.bytes.now ≡ bs.now) × Sized bs.now b.shape.count) (λ f. MisSized bs.now f) };
+
+    fn try_from(bytes: &'a [u8]) -> Result<Block<'a>, BlockFault> {
+        let &[c0, c1, c2, c3, l0, l1, l2, l3, ..] = bytes else {
+            return Err(BlockFault::TooShort);
+        };
+        let shape = Shape::try_from(u32::from_be_bytes([c0, c1, c2, c3]) as usize)?;
+        let length = shape.length();
+        if u32::from_be_bytes([l0, l1, l2, l3]) as usize != length || bytes.len() != length {
+            return Err(BlockFault::WrongLength);
+        }
+        Ok(Block { bytes, shape })
     }
 }
 
-// How many fills the block says it has, where its sizes are right.
-fn read_sizes(bytes: &[u8]) -> Result<usize, BlockFault>
-    ensures { MatchResult result (λ n. Sized bytes.now n) (λ f. MisSized bytes.now f) }
-{
-    if bytes.len() < SIZES {
-        return Err(BlockFault::TooShort);
+impl Block<'_> {
+    // The bytes from a place on, as many as the number has that is made of them.
+    fn bytes_at<const N: usize>(&self, at: usize) -> [u8; N]
+        requires { at + N ≤ length self.now.bytes.now }
+        ensures { result ≡ take N (drop at self.now.bytes.now) }
+    {
+        *self.bytes[at..].first_chunk().unwrap()
     }
-    let count = number4(bytes, 0) as usize;
-    if MOST_FILLS < count {
-        return Err(BlockFault::TooManyFills);
-    }
-    let length = SIZES + (WHO + WHAT) * count;
-    if number4(bytes, 4) as usize != length || bytes.len() != length {
-        return Err(BlockFault::WrongLength);
-    }
-    Ok(count)
-}
 
-// Is this entry of every fill in range?
-fn judge(bytes: &[u8], count: usize, which: Entry) -> Result<(), BlockFault>
-    requires few { count ≤ most_fills }
-    requires long { length bytes.now ≡ block_length count }
-    ensures { result ≡ judged which (fills_in bytes.now count) count }
-{
-    for fill in 0..count {
-        if !which.admits(&fill_at(bytes, count, fill)) {
-            return Err(which.fault(count, fill));
+    // The fill of that place, from 0.
+    fn fill(&self, place: usize) -> Fill
+        requires { place < self.now.shape.count }
+        ensures { result ≡ fill_at self.now.bytes.now self.now.shape.count place }
+    {
+        let who = self.shape.who_at(place);
+        let what = self.shape.what_at(place);
+        Fill {
+            price: u32::from_be_bytes(self.bytes_at(what + 4)),
+            volume: u32::from_be_bytes(self.bytes_at(what)),
+            buyer: Party {
+                house: u16::from_be_bytes(self.bytes_at(who + 8)).into(),
+                folio: u32::from_be_bytes(self.bytes_at(who)),
+            },
+            seller: Party {
+                house: u16::from_be_bytes(self.bytes_at(who + 10)).into(),
+                folio: u32::from_be_bytes(self.bytes_at(who + 4)),
+            },
         }
     }
-    Ok(())
-}
 
-// Puts the fills at the list's front.
-fn put_fills(bytes: &[u8], count: usize, list: &mut [Fill])
-    requires few { count ≤ most_fills }
-    requires long { length bytes.now ≡ block_length count }
-    requires room { count ≤ length list.old }
-    ensures front { take count list.new ≡ fills_in bytes.now count }
-    ensures behind { drop count list.new ≡ drop count list.old }
-{
-    for fill in 0..count {
-        list[fill] = fill_at(bytes, count, fill);
+    // Is this entry of every fill in range?
+    fn judge(&self, which: Entry) -> Result<(), BlockFault>
+        ensures { result ≡ judged which (fills_in self.now.bytes.now self.now.shape.count) self.now.shape.count }
+    {
+        which.judge(
+            self.shape,
+            (0..self.shape.count).map(|place| self.fill(place)),
+        )
+    }
+
+    // Puts the fills at the list's front.
+    fn put(&self, list: &mut [Fill])
+        requires { self.now.shape.count ≤ length list.old }
+        ensures front { take self.now.shape.count list.new ≡ fills_in self.now.bytes.now self.now.shape.count }
+        ensures behind { drop self.now.shape.count list.new ≡ drop self.now.shape.count list.old }
+    {
+        // By place: of slots lent by `iter_mut` a proof knows, once the loan is over, only how many they are.
+        for place in 0..self.shape.count {
+            list[place] = self.fill(place);
+        }
     }
 }
 
@@ -101,12 +94,12 @@ fn put_fills(bytes: &[u8], count: usize, list: &mut [Fill])
 pub fn read_block(bytes: &[u8], list: &mut [Fill]) -> Result<usize, BlockFault>
     ensures { Read bytes.now list.old list.new result }
 {
-    let count = read_sizes(bytes)?;
-    judge(bytes, count, Entry::Who)?;
-    judge(bytes, count, Entry::What)?;
-    if list.len() < count {
+    let block = Block::try_from(bytes)?;
+    block.judge(Entry::Who)?;
+    block.judge(Entry::What)?;
+    if list.len() < block.shape.count {
         return Err(BlockFault::ListTooShort);
     }
-    put_fills(bytes, count, list);
-    Ok(count)
+    block.put(list);
+    Ok(block.shape.count)
 }

@@ -2,29 +2,24 @@
 ghost use Rattle.std.specs.Prelude.{◌≡◌, ◌+◌, ◌*◌, ◌<◌, ◌≤◌, ◌++◌, length};
 ghost use Rattle.std.specs.List.{flat_map};
 ghost use Rattle.base.specs.Bytes.{bytes2, bytes4};
-ghost use Rattle.tape.specs.Asked.{most_fills};
-ghost use Rattle.tape.specs.Block.{parties_entry, what_entry, who_entry};
-ghost use Rattle.tape.specs.Entries.{judged};
+ghost use Rattle.tape.specs.Block.{parties_entry};
+ghost use Rattle.tape.specs.Entries.{entry_bytes, entry_size, judged};
 ghost use Rattle.tape.specs.Written.{Written};
 
-use crate::entry::{Entry, MOST_FILLS, SIZES, WHAT, WHO};
+use crate::entry::Entry;
 use crate::fault::BlockFault;
+use crate::shape::{SIZES, Shape, WHAT, WHO};
 use orders::trade::{Fill, Party};
 
 // Is this entry of every fill in range?
-fn judge(fills: &[Fill], which: Entry) -> Result<(), BlockFault>
-    requires { length fills.now ≤ most_fills }
+fn judge(fills: &[Fill], shape: Shape, which: Entry) -> Result<(), BlockFault>
+    requires { shape.count ≡ length fills.now }
     ensures { result ≡ judged which fills.now (length fills.now) }
 {
-    for fill in 0..fills.len() {
-        if !which.admits(&fills[fill]) {
-            return Err(which.fault(fills.len(), fill));
-        }
-    }
-    Ok(())
+    which.judge(shape, fills.iter().copied())
 }
 
-// The low two bytes of a number.
+// The low two bytes of a number, all that a house needs: `u16::try_from` is no plainer, as it would ask for a fault.
 fn low_bytes(number: u32) -> [u8; 2]
     ensures { result ≡ bytes2 number }
 {
@@ -37,8 +32,7 @@ fn put_two(first: u32, second: u32, out: &mut [u8])
     requires { length out.old ≡ 8 }
     ensures { out.new ≡ bytes4 first ++ bytes4 second }
 {
-    out[0..4].copy_from_slice(&first.to_be_bytes());
-    out[4..8].copy_from_slice(&second.to_be_bytes());
+    out.copy_from_slice([first.to_be_bytes(), second.to_be_bytes()].as_flattened());
 }
 
 // Fills the bytes of an entry with who traded.
@@ -47,39 +41,42 @@ fn put_who(buyer: Party, seller: Party, out: &mut [u8])
     ensures { out.new ≡ parties_entry buyer seller }
 {
     put_two(buyer.folio, seller.folio, &mut out[0..8]);
-    out[8..10].copy_from_slice(&low_bytes(buyer.house));
-    out[10..12].copy_from_slice(&low_bytes(seller.house));
+    out[8..12].copy_from_slice([low_bytes(buyer.house), low_bytes(seller.house)].as_flattened());
 }
 
-// Fills a part of a buffer with who traded in each fill.
-fn write_whos(fills: &[Fill], part: &mut [u8])
-    requires few { length fills.now ≤ most_fills }
-    requires long { length part.old ≡ 12 * length fills.now }
-    ensures { part.new ≡ flat_map who_entry fills.now }
-{
-    for fill in 0..fills.len() {
-        let at = WHO * fill;
-        put_who(
-            fills[fill].buyer,
-            fills[fill].seller,
-            &mut part[at..at + WHO],
-        );
+impl Entry {
+    // How many bytes it has.
+    fn size(self) -> usize
+        ensures { result ≡ entry_size self }
+    {
+        match self {
+            Entry::Who => WHO,
+            Entry::What => WHAT,
+        }
     }
-}
 
-// Fills a part of a buffer with what was traded in each fill.
-fn write_whats(fills: &[Fill], part: &mut [u8])
-    requires few { length fills.now ≤ most_fills }
-    requires long { length part.old ≡ 8 * length fills.now }
-    ensures { part.new ≡ flat_map what_entry fills.now }
-{
-    for fill in 0..fills.len() {
-        let at = WHAT * fill;
-        put_two(
-            fills[fill].volume,
-            fills[fill].price,
-            &mut part[at..at + WHAT],
-        );
+    // Fills the bytes of this entry of the fill.
+    fn put(self, fill: &Fill, out: &mut [u8])
+        requires { length out.old ≡ entry_size self }
+        ensures { out.new ≡ entry_bytes self fill.now }
+    {
+        match self {
+            Entry::Who => put_who(fill.buyer, fill.seller, out),
+            Entry::What => put_two(fill.volume, fill.price, out),
+        }
+    }
+
+    // Fills a part of a buffer with this entry of each fill.
+    fn write(self, fills: &[Fill], part: &mut [u8])
+        requires { length part.old ≡ entry_size self * length fills.now }
+        ensures { part.new ≡ flat_map (entry_bytes self) fills.now }
+    {
+        let size = self.size();
+        for (place, fill) in fills.iter().enumerate() {
+            // By range: of parts lent by `chunks_exact_mut` a proof knows, once the loan is over, only their length.
+            let at = size * place;
+            self.put(fill, &mut part[at..at + size]);
+        }
     }
 }
 
@@ -88,19 +85,16 @@ fn write_whats(fills: &[Fill], part: &mut [u8])
 pub fn write_block(fills: &[Fill], buffer: &mut [u8]) -> Result<usize, BlockFault>
     ensures { Written fills.now buffer.old buffer.new result }
 {
-    let count = fills.len();
-    if MOST_FILLS < count {
-        return Err(BlockFault::TooManyFills);
-    }
-    judge(fills, Entry::Who)?;
-    judge(fills, Entry::What)?;
-    let whats = SIZES + WHO * count;
-    let end = whats + WHAT * count;
+    let shape = Shape::try_from(fills.len())?;
+    judge(fills, shape, Entry::Who)?;
+    judge(fills, shape, Entry::What)?;
+    let whats = shape.what_at(0);
+    let end = shape.length();
     if buffer.len() < end {
         return Err(BlockFault::BufferTooShort);
     }
-    put_two(count as u32, end as u32, &mut buffer[0..SIZES]);
-    write_whos(fills, &mut buffer[SIZES..whats]);
-    write_whats(fills, &mut buffer[whats..end]);
+    put_two(shape.count as u32, end as u32, &mut buffer[0..SIZES]);
+    Entry::Who.write(fills, &mut buffer[SIZES..whats]);
+    Entry::What.write(fills, &mut buffer[whats..end]);
     Ok(end)
 }

@@ -60,19 +60,7 @@ fn at(number: u32, place: u64) -> Option<Refusal> {
 }
 
 fn refused(answer: Result<usize, BlockFault>) -> Option<Refusal> {
-    match answer {
-        Ok(_) => None,
-        Err(fault) => Some(fault.refusal()),
-    }
-}
-
-fn same(a: &Fill, b: &Fill) -> bool {
-    a.price == b.price
-        && a.volume == b.volume
-        && a.buyer.house == b.buyer.house
-        && a.buyer.folio == b.buyer.folio
-        && a.seller.house == b.seller.house
-        && a.seller.folio == b.seller.folio
+    answer.err().map(Refusal::from)
 }
 
 // What reading answers to bytes, with places for three fills; the list then holds what it held where it is refused.
@@ -80,9 +68,7 @@ fn reading(rt: &impl Abort, bytes: &[u8]) -> Option<Refusal> {
     let mut list = [OTHER; 3];
     let answer = refused(read_block(bytes, &mut list));
     if answer.is_some() {
-        for fill in &list {
-            assert!(rt; same(fill, &OTHER));
-        }
+        assert_eq!(rt; list, [OTHER; 3]);
     }
     answer
 }
@@ -104,7 +90,7 @@ fn no_fills(rt: HostRuntime) {
     assert!(rt; buffer == [0, 0, 0, 0, 0, 0, 0, 8, OLD, OLD]);
     let mut list = [OTHER];
     assert_eq!(rt; read_block(&buffer[0..8], &mut list).ok(), Some(0));
-    assert!(rt; same(&list[0], &OTHER));
+    assert_eq!(rt; list, [OTHER]);
 }
 
 #[test]
@@ -115,9 +101,7 @@ fn two_fills_byte_by_byte(rt: HostRuntime) {
     assert_eq!(rt; (buffer[48], buffer[49]), (OLD, OLD));
     let mut list = [OTHER; 3];
     assert_eq!(rt; read_block(&TWO, &mut list).ok(), Some(2));
-    assert!(rt; same(&list[0], &FIRST));
-    assert!(rt; same(&list[1], &SECOND));
-    assert!(rt; same(&list[2], &OTHER));
+    assert_eq!(rt; list, [FIRST, SECOND, OTHER]);
 }
 
 #[test]
@@ -152,7 +136,7 @@ fn sizes_of_a_block(rt: HostRuntime) {
 fn a_list_too_short(rt: HostRuntime) {
     let mut list = [OTHER];
     assert_eq!(rt; refused(read_block(&TWO, &mut list)), at(25, 0));
-    assert!(rt; same(&list[0], &OTHER));
+    assert_eq!(rt; list, [OTHER]);
 }
 
 #[test]
@@ -291,8 +275,6 @@ fn three_thousand_fills_and_one_more(rt: HostRuntime) {
     );
     let mut list = [OTHER; 3_001];
     assert_eq!(rt; read_block(&buffer[0..60_008], &mut list).ok(), Some(3_000));
-    for fill in list.iter().take(3_000) {
-        assert!(rt; same(fill, &FIRST));
-    }
-    assert!(rt; same(&list[3_000], &OTHER));
+    assert!(rt; list.iter().take(3_000).all(|fill| *fill == FIRST));
+    assert_eq!(rt; list[3_000], OTHER);
 }

@@ -1,23 +1,27 @@
-use Rattle.std.proofs.Common.{◌≤◌, length, arith, rules}
-use Rattle.tape.specs.Asked.{most_fills}
-use Rattle.tape.specs.Block.{block_length}
-use Rattle.tape.proofs.Answered.{block_written, write_asked}
+use Rattle.std.proofs.Common.{◌≡◌, length, arith, rules}
+use Rattle.base.specs.Questions.{first_no}
+use Rattle.tape.specs.Asked.{write_questions}
+use Rattle.tape.specs.declared.entry.Entry.TheVariants.{Who, What}
+use Rattle.tape.proofs.Scan.{every_good}
+use Rattle.tape.proofs.Answered.{block_written}
 use Rattle.tape.proofs.writing.write_block.Goals as goal
 
 pub returns : goal.returns
 returns c =
     let fs = c.args.fills.now in
     let before = c.args.buffer.now in
-    let who = c.in_ok-judge.ensures in
-    let what = c.in_ok-judge-2.ensures in
-    let few : length fs ≤ most_fills = search rules in
-    let room : block_length (length fs) ≤ length before = omega (arith, c.if-buffer-end.false) in
-    block_written fs few who what before _ _ _ _ _ _
-    (write_asked fs few who what (length before) room)
+    let counted = c.in_ok-shape.ensures in
+    let few = rw counted at c.in_ok-shape.shape.few in
+    let who = every_good Who (length fs) fs c.in_ok-judge.ensures in
+    let what = every_good What (length fs) fs c.in_ok-judge-2.ensures in
+    let asked : first_no (write_questions fs (length before)) ≡ 0 = search rules in
+    block_written fs few who what before _ _ _ _ _ _ _
+    asked
     (omega arith)
-    (omega (arith, room))
+    (omega (arith, c.if-buffer-end.false))
     (omega arith)
     (omega arith)
-    c.put_two.ensures
-    c.write_whos.ensures
-    c.write_whats.ensures
+    (omega arith)
+    (rw counted at c.put_two.ensures)
+    c.write.ensures
+    c.write-2.ensures
