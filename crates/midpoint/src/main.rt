@@ -2,66 +2,59 @@
 // standard output.
 #![tactic(auto)]
 
-ghost use Rattle.std.specs.Prelude.{◌≤◌, IfOk};
-
-use arguments::{board_of, refuse_arguments};
+use arguments::run_on_board;
 use quotes::answer::Answer;
 use quotes::board::QuoteBoard;
+use quotes::message::MESSAGE;
 use std::io;
 use std::io::{BufReader, BufWriter, Read, Write};
 use std::process::ExitCode;
 
-// Fills the buffer from the input, less at the input's end, and answers how many bytes it then holds.
-// All answers are written before it waits for more input.
-fn next_message<R: Read, W: Write + Drop>(
-    input: &mut BufReader<R>,
-    output: &mut BufWriter<W>,
-    message: &mut [u8; 24],
-) -> io::Result<usize>
-    ensures { IfOk result (λ held. held ≤ 24) }
-{
-    let mut held = 0;
-    while held < 24 {
-        if input.buffer().is_empty() {
-            output.flush()?;
-        }
-        let n = input.read(&mut message[held..24])?;
-        if n == 0 {
-            break;
-        }
-        held += n;
-    }
-    Ok(held)
+// Where messages come from and answers go.
+#[derive(Drop)]
+struct Conversation<R: Read + Drop, W: Write + Drop> {
+    input: BufReader<R>,
+    output: BufWriter<W>,
 }
 
-fn run(rt: &HostRuntime, mut board: QuoteBoard) -> io::Result<()> {
-    let mut input = BufReader::new(rt.alloc(), rt.stdin())?;
-    let mut output = BufWriter::new(rt.alloc(), rt.stdout())?;
-    let mut message = [0u8; 24];
+// All answers are written out before it waits for more input.
+impl<R: Read + Drop, W: Write + Drop> Read for Conversation<R, W> {
+    fn read(&mut self, buffer: &mut [u8]) -> io::Result<usize> {
+        if self.input.buffer().is_empty() {
+            self.output.flush()?;
+        }
+        self.input.read(buffer)
+    }
+}
+
+fn run(rt: &HostRuntime, mut board: QuoteBoard) -> anyhow::Result<()> {
+    let input = BufReader::new(rt.alloc(), rt.stdin())?;
+    let output = BufWriter::new(rt.alloc(), rt.stdout())?;
+    let mut conversation = Conversation { input, output };
+    // Room for one byte more than a message has, so that the vector doesn't grow when its end is looked for.
+    let mut message = Vec::with_capacity(rt.alloc(), MESSAGE + 1)?;
     let mut accepted = 0u64;
+    // Every function has to end, and nothing says that an input does.
     for _ in 0..u64::MAX {
-        let held = next_message(&mut input, &mut output, &mut message)?;
-        if held == 0 {
+        message.clear();
+        conversation
+            .by_ref()
+            .take(MESSAGE as u64)
+            .read_to_end(&mut message)?;
+        if message.is_empty() {
             break;
         }
-        match board.receive(&message[0..held]) {
-            Ok(midpoint) => {
-                accepted = accepted.saturating_add(1);
-                writeln!(output, "{}", Answer::Midpoint(midpoint))?;
-            }
-            Err(fault) => writeln!(output, "{}", Answer::Refused(fault))?,
+        let answer = board.receive(&message);
+        if answer.is_ok() {
+            accepted = accepted.saturating_add(1);
         }
+        writeln!(conversation.output, "{}", Answer(answer))?;
     }
-    writeln!(output, "end {accepted}")?;
-    output.flush()
+    writeln!(conversation.output, "end {accepted}")?;
+    conversation.output.flush()?;
+    Ok(())
 }
 
 fn main(rt: HostRuntime) -> anyhow::Result<ExitCode> {
-    match board_of(&rt)? {
-        Some(board) => {
-            run(&rt, board)?;
-            Ok(ExitCode::SUCCESS)
-        }
-        None => refuse_arguments(&rt, "midpoint"),
-    }
+    run_on_board(&rt, "midpoint", |board| run(&rt, board))
 }

@@ -1,8 +1,9 @@
 -- The Last Quote message: where its fields stand, and the questions asked of them.
-use Rattle.std.specs.Prelude.{◌≡◌, ℕ, ◌+◌, ◌*◌, ◌/◌, ◌%◌, ◌^◌, Bool, false, cond, ◌&&◌, ◌||◌, List, [], ◌∷◌, length, ℤ, pos, negsuc, is_some, Some, None, Option, ◌==◌, nat_le, slice_index}
+use Rattle.std.specs.Prelude.{◌≡◌, ℕ, ◌/◌, ◌%◌, Bool, false, cond, ◌&&◌, ◌||◌, List, [], ◌∷◌, length, ℤ, pos, negsuc, is_some, Some, None, Option, ◌==◌, nat_le}
 use Rattle.std.specs.Int.Signed.{non_neg}
 use Rattle.std.specs.Int.{w32, w64}
 use Rattle.std.proofs.Common.{to_z}
+use Rattle.base.specs.Bytes.{byte, number4, number8}
 use Rattle.base.specs.Letters.{side_of}
 use Rattle.base.specs.Questions.{Question, ask}
 use Rattle.quotes.specs.declared.message.Origin.{Origin}
@@ -12,22 +13,12 @@ use Rattle.quotes.specs.declared.message.RawQuote.{RawQuote}
 use Rattle.quotes.specs.declared.ticks.SecurityType.{SecurityType}
 use Rattle.quotes.specs.Ticks.{on_tick}
 
-abbrev byte : List ℕ → ℕ → ℕ
-byte bs at = slice_index bs at
-
 -- a number of four or eight bytes, the highest first, signed by its top bit
 abbrev pub int32 : List ℕ → ℕ → ℤ
-int32 bs at = to_z w32 (byte bs at * 2 ^ 24 + byte bs (at + 1) * 2 ^ 16 + byte bs (at + 2) * 2 ^ 8 + byte bs (at + 3))
+int32 bs at = to_z w32 (number4 bs at)
 
 abbrev pub int64 : List ℕ → ℕ → ℤ
-int64 bs at =
-    to_z
-    w64
-    (byte bs at * 2 ^ 56 + byte bs (at + 1) * 2 ^ 48 + byte bs (at + 2) * 2 ^ 40 + byte bs (at + 3) * 2 ^ 32
-    + byte bs (at + 4) * 2 ^ 24
-    + byte bs (at + 5) * 2 ^ 16
-    + byte bs (at + 6) * 2 ^ 8
-    + byte bs (at + 7))
+int64 bs at = to_z w64 (number8 bs at)
 
 -- the fields of a message; the type of trading, at 23, is ignored
 abbrev pub fields : List ℕ → RawQuote
@@ -49,6 +40,7 @@ last_quote = 109
 abbrev pub origin_of : ℕ → Option Origin
 origin_of letter = cond (letter == 77) (Some Bmv) (cond (letter == 73) (Some Biva) None)
 
+-- written out: through the library's equality, which is by an order, the check's search for `lay` stops at its limit
 abbrev pub same_int : ℤ → ℤ → Bool
 same_int (pos a) (pos b) = a == b
 same_int (pos a) (negsuc b) = false

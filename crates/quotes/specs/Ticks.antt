@@ -1,6 +1,7 @@
 -- The ticks of each type of security, in ten-thousandths of a peso.
-use Rattle.std.specs.Prelude.{ℕ, ◌-◌, ◌%◌, Bool, ◌&&◌, ◌||◌, List, codes, ◌==◌, nat_le}
+use Rattle.std.specs.Prelude.{◌≡◌, ◌≢◌, ℕ, ◌-◌, ◌%◌, Bool, ◌&&◌, ◌||◌, List, Result, MatchResult, codes, ◌==◌, nat_le}
 use Rattle.quotes.specs.declared.ticks.SecurityType.{SecurityType}
+use Rattle.quotes.specs.declared.ticks.UnknownType.{UnknownType}
 use Rattle.quotes.specs.declared.ticks.SecurityType.TheVariants.{Equity, Sic, Warrant, FixedIncome}
 
 -- one of lowest, lowest + step, lowest + 2 × step, and so on up to highest
@@ -19,3 +20,7 @@ type_word Equity = codes "equity"
 type_word Sic = codes "sic"
 type_word Warrant = codes "warrant"
 type_word FixedIncome = codes "fixed"
+
+-- what reading a word as a type of security gives: the type that the word names, and an error where it names none
+abbrev pub Names : List ℕ → Result SecurityType UnknownType → Type 0
+Names word r = MatchResult r (λ t. word ≡ type_word t) (λ _. (t : SecurityType) → word ≢ type_word t)

@@ -1,8 +1,8 @@
 // The board: the four quotes of one instrument, and the midpoint between the best of them.
-ghost use Rattle.std.specs.Prelude.{◌≡◌, min, max, true, IfSome, MatchResult};
+ghost use Rattle.std.specs.Prelude.{◌≡◌, true, drop, IfSome, MatchResult};
 ghost use Rattle.base.specs.Questions.{first_no};
 ghost use Rattle.quotes.specs.declared.ticks.SecurityType.{SecurityType};
-ghost use Rattle.quotes.specs.Board.{no_quotes, standing, laid, best, highest_bid, lowest_offer, midpoint, ticked, all_ticked, Exact, Lays};
+ghost use Rattle.quotes.specs.Board.{no_quotes, standing, laid, highest_bid, lowest_offer, midpoint, ticked, all_ticked, IsBest, Exact, Lays};
 ghost use Rattle.quotes.specs.Faults.{refusal};
 ghost use Rattle.quotes.specs.Message.{message_questions};
 
@@ -13,24 +13,20 @@ use base::Side;
 
 // The four quotes as an array of rows: a row for each origin, in it the bid and the offer.
 // Every quote that stands is on its security's tick.
-#[derive(Clone, Copy)]
+#[derive(Clone, Copy, PartialEq, Eq, Debug)]
 pub struct Quotes {
     security: SecurityType,
     rows: [[Option<u32>; 2]; 2],
     ghost sound: { all_ticked security rows ≡ true },
 }
 
-// The rows with one quote replaced.
-fn with_quote(
-    rows: [[Option<u32>; 2]; 2],
-    origin: Origin,
-    side: Side,
-    quote: Option<u32>,
-) -> [[Option<u32>; 2]; 2]
-    ensures { result ≡ laid rows origin side quote }
+// The rows with one quote replaced. They are taken apart by pattern: an index would rest on the order of the variants.
+fn with_quote(rows: [[Option<u32>; 2]; 2], update: QuoteUpdate) -> [[Option<u32>; 2]; 2]
+    ensures { result ≡ laid rows update.origin update.side update.quote }
 {
     let [[bmv_bid, bmv_offer], [biva_bid, biva_offer]] = rows;
-    match (origin, side) {
+    let quote = update.quote;
+    match (update.origin, update.side) {
         (Origin::Bmv, Side::Buy) => [[quote, bmv_offer], [biva_bid, biva_offer]],
         (Origin::Bmv, Side::Sell) => [[bmv_bid, quote], [biva_bid, biva_offer]],
         (Origin::Biva, Side::Buy) => [[bmv_bid, bmv_offer], [quote, biva_offer]],
@@ -38,25 +34,14 @@ fn with_quote(
     }
 }
 
-fn higher(a: Option<u32>, b: Option<u32>) -> Option<u32>
-    ensures value { result ≡ best max a b }
-    ensures sound { (s : SecurityType) → ticked s a ≡ true → ticked s b ≡ true → ticked s result ≡ true }
+// Of two quotes the one that `pick` chooses where both stand; else the one that stands.
+fn best<F: FnOnce(u32, u32) -> u32>(a: Option<u32>, b: Option<u32>, pick: F) -> Option<u32>
+    requires { F.IsAlwaysCallable pick }
+    ensures { IsBest (F.post pick) a b result }
 {
     match (a, b) {
-        (Some(p), Some(q)) => Some(p.max(q)),
-        (Some(p), None) => Some(p),
-        (None, q) => q,
-    }
-}
-
-fn lower(a: Option<u32>, b: Option<u32>) -> Option<u32>
-    ensures value { result ≡ best min a b }
-    ensures sound { (s : SecurityType) → ticked s a ≡ true → ticked s b ≡ true → ticked s result ≡ true }
-{
-    match (a, b) {
-        (Some(p), Some(q)) => Some(p.min(q)),
-        (Some(p), None) => Some(p),
-        (None, q) => q,
+        (Some(p), Some(q)) => Some(pick(p, q)),
+        _ => a.or(b),
     }
 }
 
@@ -76,20 +61,19 @@ impl Quotes {
         requires { ticked self.security update.quote ≡ true }
         ensures { (result.security ≡ self.security) × (result.rows ≡ laid self.rows update.origin update.side update.quote) }
     {
-        let rows = with_quote(self.rows, update.origin, update.side, update.quote);
         Quotes {
             security: self.security,
-            rows,
+            rows: with_quote(self.rows, update),
         }
     }
 
-    // The highest bid that stands.
+    // The highest bid that stands. It and `offer` share `best`: only the column and the choice differ.
     pub fn bid(&self) -> Option<u32>
         ensures value { result ≡ highest_bid self.now.rows }
         ensures sound { ticked self.now.security result ≡ true }
     {
         let [[bmv, _], [biva, _]] = self.rows;
-        higher(bmv, biva)
+        best(bmv, biva, u32::max)
     }
 
     // The lowest offer that stands.
@@ -98,7 +82,7 @@ impl Quotes {
         ensures sound { ticked self.now.security result ≡ true }
     {
         let [[_, bmv], [_, biva]] = self.rows;
-        lower(bmv, biva)
+        best(bmv, biva, u32::min)
     }
 
     // Half the sum of the highest bid and the lowest offer where both stand; none otherwise.
@@ -106,15 +90,14 @@ impl Quotes {
         ensures value { result ≡ midpoint self.now.rows }
         ensures exact { IfSome result (λ m. Exact self.now.rows m) }
     {
-        match (self.bid(), self.offer()) {
-            (Some(bid), Some(offer)) => Some((bid + offer) / 2),
-            _ => None,
-        }
+        let bid = self.bid()?;
+        let offer = self.offer()?;
+        Some((bid + offer) / 2)
     }
 }
 
-// The quotes of one instrument.
-#[derive(Clone, Copy)]
+// The quotes of one instrument. Its type stands in the quotes, whose invariant needs it: no struct of the two beside them.
+#[derive(Clone, Copy, PartialEq, Eq, Debug)]
 pub struct QuoteBoard {
     instrument: i32,
     quotes: Quotes,
@@ -139,15 +122,13 @@ impl QuoteBoard {
         self.quotes.midpoint()
     }
 
-    // The message at the front of the bytes, laid on a copy of the quotes.
-    pub fn lay(&self, bytes: &[u8]) -> Result<Quotes, MessageFault>
-        ensures { MatchResult result (λ q. (q.security ≡ self.now.quotes.security) × Lays self.now.instrument self.now.quotes.security self.now.quotes.rows bytes.now q.rows) (λ f. (refusal f).number ≡ first_no (message_questions self.now.instrument self.now.quotes.security bytes.now)) }
+    // The message at the front of the bytes, laid on a copy of the quotes, and the bytes behind it.
+    pub fn lay<'a>(&self, bytes: &'a [u8]) -> Result<(Quotes, &'a [u8]), MessageFault>
+        ensures { MatchResult result (λ p. (p.0.security ≡ self.now.quotes.security) × Lays self.now.instrument self.now.quotes.security self.now.quotes.rows bytes.now p.0.rows × (p.1.now ≡ drop 24 bytes.now)) (λ f. (refusal f).number ≡ first_no (message_questions self.now.instrument self.now.quotes.security bytes.now)) }
     {
         let quotes = self.quotes;
-        match read_message(bytes, self.instrument, quotes.security) {
-            Ok((update, _)) => Ok(quotes.with_update(update)),
-            Err(fault) => Err(fault),
-        }
+        let (update, rest) = read_message(bytes, self.instrument, quotes.security)?;
+        Ok((quotes.with_update(update), rest))
     }
 
     // The copy replaces the quotes.
@@ -156,16 +137,13 @@ impl QuoteBoard {
     {
         self.quotes = quotes;
     }
+
     // One message taken, and the midpoint after it; a refused one changes nothing.
     pub fn receive(&mut self, bytes: &[u8]) -> Result<Option<u32>, MessageFault>
         ensures { MatchResult result (λ m. (self.new.instrument ≡ self.old.instrument) × (self.new.quotes.security ≡ self.old.quotes.security) × Lays self.old.instrument self.old.quotes.security self.old.quotes.rows bytes.now self.new.quotes.rows × (m ≡ midpoint self.new.quotes.rows)) (λ f. ((refusal f).number ≡ first_no (message_questions self.old.instrument self.old.quotes.security bytes.now)) × (self.new ≡ self.old)) }
     {
-        match self.lay(bytes) {
-            Ok(quotes) => {
-                self.replace(quotes);
-                Ok(quotes.midpoint())
-            }
-            Err(fault) => Err(fault),
-        }
+        let (quotes, _) = self.lay(bytes)?;
+        self.replace(quotes);
+        Ok(quotes.midpoint())
     }
 }

@@ -4,7 +4,7 @@ ghost use Rattle.quotes.specs.Faults.{refusal};
 
 use base::{Layer, Refusal};
 
-#[derive(Clone, Copy)]
+#[derive(Clone, Copy, PartialEq, Eq, Debug)]
 pub enum MessageFault {
     TooShort,
     NotLastQuote,
@@ -15,12 +15,12 @@ pub enum MessageFault {
     OffTick,
 }
 
-impl MessageFault {
-    // The refusal's number, and the offset of the field that it is about.
-    pub fn refusal(self) -> Refusal
-        ensures { result ≡ refusal self }
-    {
-        let (number, place) = match self {
+// The refusal's number, and the offset of the field that it is about.
+impl From<MessageFault> for Refusal {
+    ghost from_gives = { λ fault result. result ≡ refusal fault };
+
+    fn from(fault: MessageFault) -> Refusal {
+        let (number, place) = match fault {
             MessageFault::TooShort => (13, 0),
             MessageFault::NotLastQuote => (14, 0),
             MessageFault::OtherInstrument => (15, 1),

@@ -1,22 +1,41 @@
 // The Last Quote message: taken apart, then judged field by field.
-ghost use Rattle.std.specs.Prelude.{◌≡◌, ◌+◌, ◌<◌, length, drop, MatchOption, MatchResult};
+ghost use Rattle.std.specs.Prelude.{◌≡◌, ◌+◌, ◌<◌, length, drop, MatchOption, MatchResult, ok_or};
 ghost use Rattle.base.specs.Questions.{first_no};
+ghost use Rattle.quotes.specs.declared.fault.MessageFault.TheVariants.{UnknownOrigin};
 ghost use Rattle.quotes.specs.Faults.{refusal};
 ghost use Rattle.quotes.specs.Message.{fields, origin_of, tick_price, Says, field_questions, message_questions};
 
 use crate::fault::MessageFault;
 use crate::ticks::{SecurityType, is_on_tick};
-use base::{Side, side_of};
+use base::Side;
+
+// How many bytes a message has.
+pub const MESSAGE: usize = 24;
 
 // The exchange that sent a quote.
-#[derive(Clone, Copy)]
+#[derive(Clone, Copy, PartialEq, Eq, Debug)]
 pub enum Origin {
     Bmv,
     Biva,
 }
 
+// The exchange that a message's letter names.
+impl TryFrom<u8> for Origin {
+    type Error = MessageFault;
+
+    ghost try_from_gives = { λ letter result. result ≡ ok_or (origin_of letter) UnknownOrigin };
+
+    fn try_from(letter: u8) -> Result<Origin, MessageFault> {
+        match letter as char {
+            'M' => Ok(Origin::Bmv),
+            'I' => Ok(Origin::Biva),
+            _ => Err(MessageFault::UnknownOrigin),
+        }
+    }
+}
+
 // The fields of a message as its bytes hold them, before any of them is judged.
-#[derive(Clone, Copy)]
+#[derive(Clone, Copy, PartialEq, Eq, Debug)]
 pub struct RawQuote {
     pub kind: u8,
     pub instrument: i32,
@@ -27,14 +46,15 @@ pub struct RawQuote {
 }
 
 // What an accepted message makes of one of the four quotes: a price, or none where it clears it.
-#[derive(Clone, Copy)]
+#[derive(Clone, Copy, PartialEq, Eq, Debug)]
 pub struct QuoteUpdate {
     pub origin: Origin,
     pub side: Side,
     pub quote: Option<u32>,
 }
 
-// The fields of the message at the front, and the bytes behind it; none where there are too few bytes.
+// The fields of the message at the front, and the bytes behind it; none where there are too few bytes. All of it is named
+// by one slice pattern, a code form of this project.
 #[rattlefmt::skip]
 pub fn take_apart(bytes: &[u8]) -> Option<(RawQuote, &[u8])>
     ensures { MatchOption result (length bytes.now < 24) (λ p. (p.0 ≡ fields bytes.now) × (p.1.now ≡ drop 24 bytes.now) × (length p.1.now + 24 ≡ length bytes.now)) }
@@ -62,73 +82,44 @@ pub fn take_apart(bytes: &[u8]) -> Option<(RawQuote, &[u8])>
     Some((raw, rest))
 }
 
-fn origin_of(letter: u8) -> Option<Origin>
-    ensures { result ≡ origin_of letter }
-{
-    match letter as char {
-        'M' => Some(Origin::Bmv),
-        'I' => Some(Origin::Biva),
-        _ => None,
-    }
-}
-
 // The price on its tick of which a message's price is 10,000 times; none where there is none.
 fn price_of(security: SecurityType, hundred_millionths: i64) -> Option<u32>
     ensures { result ≡ tick_price security hundred_millionths }
 {
-    let Ok(units) = u64::try_from(hundred_millionths) else {
-        return None;
-    };
+    let units = u64::try_from(hundred_millionths).ok()?;
     if units % 10_000 != 0 {
         return None;
     }
-    let Ok(price) = u32::try_from(units / 10_000) else {
-        return None;
-    };
-    if is_on_tick(security, price) {
-        Some(price)
-    } else {
-        None
-    }
+    let price = u32::try_from(units / 10_000).ok()?;
+    is_on_tick(security, price).then_some(price)
 }
 
-// The questions of the fields, in their order.
-fn judge(
-    raw: &RawQuote,
-    instrument: i32,
-    security: SecurityType,
-) -> Result<QuoteUpdate, MessageFault>
-    ensures { MatchResult result (λ u. (first_no (field_questions instrument security raw.now) ≡ 0) × Says security raw.now u) (λ f. (refusal f).number ≡ first_no (field_questions instrument security raw.now)) }
-{
-    let 'm' = raw.kind as char else {
-        return Err(MessageFault::NotLastQuote);
-    };
-    if raw.instrument != instrument {
-        return Err(MessageFault::OtherInstrument);
-    }
-    let Some(origin) = origin_of(raw.origin) else {
-        return Err(MessageFault::UnknownOrigin);
-    };
-    let Some(side) = side_of(raw.side) else {
-        return Err(MessageFault::UnknownSide);
-    };
-    if raw.volume < 0 {
-        return Err(MessageFault::NegativeVolume);
-    }
-    if raw.volume == 0 {
-        return Ok(QuoteUpdate {
+impl RawQuote {
+    // The questions of the fields, in their order.
+    fn judge(&self, instrument: i32, security: SecurityType) -> Result<QuoteUpdate, MessageFault>
+        ensures { MatchResult result (λ u. (first_no (field_questions instrument security self.now) ≡ 0) × Says security self.now u) (λ f. (refusal f).number ≡ first_no (field_questions instrument security self.now)) }
+    {
+        let 'm' = self.kind as char else {
+            return Err(MessageFault::NotLastQuote);
+        };
+        if self.instrument != instrument {
+            return Err(MessageFault::OtherInstrument);
+        }
+        let origin = Origin::try_from(self.origin)?;
+        let side = Side::try_from(self.side).map_err(|_| MessageFault::UnknownSide)?;
+        if self.volume < 0 {
+            return Err(MessageFault::NegativeVolume);
+        }
+        let quote = if self.volume == 0 {
+            None
+        } else {
+            Some(price_of(security, self.price).ok_or(MessageFault::OffTick)?)
+        };
+        Ok(QuoteUpdate {
             origin,
             side,
-            quote: None,
-        });
-    }
-    match price_of(security, raw.price) {
-        Some(price) => Ok(QuoteUpdate {
-            origin,
-            side,
-            quote: Some(price),
-        }),
-        None => Err(MessageFault::OffTick),
+            quote,
+        })
     }
 }
 
@@ -140,11 +131,7 @@ pub fn read_message(
 ) -> Result<(QuoteUpdate, &[u8]), MessageFault>
     ensures { MatchResult result (λ p. (first_no (message_questions instrument security bytes.now) ≡ 0) × Says security (fields bytes.now) p.0 × (p.1.now ≡ drop 24 bytes.now)) (λ f. (refusal f).number ≡ first_no (message_questions instrument security bytes.now)) }
 {
-    let Some((raw, rest)) = take_apart(bytes) else {
-        return Err(MessageFault::TooShort);
-    };
-    match judge(&raw, instrument, security) {
-        Ok(update) => Ok((update, rest)),
-        Err(fault) => Err(fault),
-    }
+    let (raw, rest) = take_apart(bytes).ok_or(MessageFault::TooShort)?;
+    let update = raw.judge(instrument, security)?;
+    Ok((update, rest))
 }

@@ -1,8 +1,10 @@
 // Ticks: the prices at which a security may be quoted.
-ghost use Rattle.std.specs.Prelude.{◌≡◌, ◌<◌, MatchOption, ◌≢◌};
-ghost use Rattle.quotes.specs.Ticks.{on_tick, steps_to, type_word};
+ghost use Rattle.std.specs.Prelude.{◌≡◌, ◌<◌};
+ghost use Rattle.quotes.specs.Ticks.{on_tick, steps_to, Names};
 
-#[derive(Clone, Copy, PartialEq)]
+use std::str::FromStr;
+
+#[derive(Clone, Copy, PartialEq, Eq, Debug)]
 pub enum SecurityType {
     Equity,
     Sic,
@@ -10,17 +12,23 @@ pub enum SecurityType {
     FixedIncome,
 }
 
-impl SecurityType {
-    // The type that a program's argument names.
-    pub fn named(word: &str) -> Option<SecurityType>
-        ensures { MatchOption result ((t : SecurityType) → word.now ≢ type_word t) (λ t. word.now ≡ type_word t) }
-    {
+// A word that names no type of security.
+#[derive(Clone, Copy, PartialEq, Eq, Debug)]
+pub struct UnknownType;
+
+// The type that a program's argument names.
+impl FromStr for SecurityType {
+    type Err = UnknownType;
+
+    ghost from_str_gives = { Names };
+
+    fn from_str(word: &str) -> Result<SecurityType, UnknownType> {
         match word {
-            "equity" => Some(SecurityType::Equity),
-            "sic" => Some(SecurityType::Sic),
-            "warrant" => Some(SecurityType::Warrant),
-            "fixed" => Some(SecurityType::FixedIncome),
-            _ => None,
+            "equity" => Ok(SecurityType::Equity),
+            "sic" => Ok(SecurityType::Sic),
+            "warrant" => Ok(SecurityType::Warrant),
+            "fixed" => Ok(SecurityType::FixedIncome),
+            _ => Err(UnknownType),
         }
     }
 }
@@ -32,6 +40,7 @@ struct TickRow {
     lowest: u32,
     highest: u32,
     step: u32,
+    ghost steps: { 0 < step },
 }
 
 #[rattlefmt::skip]
@@ -43,22 +52,20 @@ const TICKS: [TickRow; 5] = [
     TickRow { security: SecurityType::FixedIncome, lowest: 1_000,  highest: 100_000_000, step: 1_000 },
 ];
 
-// Is the price on this row?
-fn has(row: &TickRow, price: u32) -> bool
-    requires { 0 < row.now.step }
-    ensures { result ≡ steps_to row.now.lowest row.now.highest row.now.step price }
-{
-    row.lowest <= price && price <= row.highest && (price - row.lowest) % row.step == 0
+impl TickRow {
+    // Is the price on this row?
+    fn has(&self, price: u32) -> bool
+        ensures { result ≡ steps_to self.now.lowest self.now.highest self.now.step price }
+    {
+        self.lowest <= price && price <= self.highest && (price - self.lowest) % self.step == 0
+    }
 }
 
 // Is the price a tick of its type of security?
 pub fn is_on_tick(security: SecurityType, price: u32) -> bool
     ensures { result ≡ on_tick security price }
 {
-    for row in &TICKS {
-        if row.security == security && has(row, price) {
-            return true;
-        }
-    }
-    false
+    TICKS
+        .iter()
+        .any(|row| row.security == security && row.has(price))
 }

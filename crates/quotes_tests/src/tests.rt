@@ -1,9 +1,9 @@
 // Messages for instrument 7001, an equity, by their fields.
-use base::{Layer, Refusal};
+use base::{Layer, Refusal, Side};
 use quotes::board::QuoteBoard;
-use quotes::message::read_message;
-use quotes::ticks::{SecurityType, is_on_tick};
-use std::test::Fail;
+use quotes::fault::MessageFault;
+use quotes::message::{MESSAGE, Origin, QuoteUpdate, read_message};
+use quotes::ticks::{SecurityType, UnknownType, is_on_tick};
 
 const INSTRUMENT: i32 = 7001;
 
@@ -29,7 +29,7 @@ const BID: Fields = Fields {
 };
 
 #[rattlefmt::skip]
-fn bytes(f: Fields) -> [u8; 24] {
+fn bytes(f: Fields) -> [u8; MESSAGE] {
     let [i0, i1, i2, i3] = f.instrument.to_be_bytes();
     let [v0, v1, v2, v3, v4, v5, v6, v7] = f.volume.to_be_bytes();
     let [p0, p1, p2, p3, p4, p5, p6, p7] = f.price.to_be_bytes();
@@ -44,10 +44,8 @@ fn bytes(f: Fields) -> [u8; 24] {
 // The refusal of a message, or nothing where it is accepted.
 fn refused(f: Fields) -> Option<Refusal> {
     let message = bytes(f);
-    match read_message(&message, INSTRUMENT, SecurityType::Equity) {
-        Ok(_) => None,
-        Err(fault) => Some(fault.refusal()),
-    }
+    let read = read_message(&message, INSTRUMENT, SecurityType::Equity);
+    read.err().map(Refusal::from)
 }
 
 fn at(number: u32, place: u64) -> Option<Refusal> {
@@ -139,15 +137,10 @@ fn each_question_before_the_later_ones(rt: HostRuntime) {
 }
 
 #[test]
-fn too_short(rt: HostRuntime) -> Result<(), Fail> {
+fn too_short(rt: HostRuntime) {
     let wrong = bytes(ALL_WRONG);
-    match read_message(&wrong[0..23], INSTRUMENT, SecurityType::Equity) {
-        Ok(_) => Err(Fail::new("23 bytes are no message")),
-        Err(fault) => {
-            assert_eq!(rt; Some(fault.refusal()), at(13, 0));
-            Ok(())
-        },
-    }
+    let read = read_message(&wrong[..MESSAGE - 1], INSTRUMENT, SecurityType::Equity);
+    assert_eq!(rt; read.err().map(Refusal::from), at(13, 0));
 }
 
 #[test]
@@ -243,7 +236,7 @@ fn ticks(rt: HostRuntime) {
 
 // A message byte by byte, and two bytes behind it.
 #[rattlefmt::skip]
-const TWO_BEHIND: [u8; 26] = [
+const TWO_BEHIND: [u8; MESSAGE + 2] = [
     b'm',
     0x00, 0x00, 0x1b, 0x59,
     b'M',
@@ -254,15 +247,33 @@ const TWO_BEHIND: [u8; 26] = [
 ];
 
 #[test]
-fn the_bytes_behind(rt: HostRuntime) -> Result<(), Fail> {
-    match read_message(&TWO_BEHIND, INSTRUMENT, SecurityType::Equity) {
-        Ok((update, rest)) => {
-            assert_eq!(rt; update.quote, Some(245_000));
-            assert_eq!(rt; rest, [7, 8].as_slice());
-            Ok(())
-        }
-        Err(_) => Err(Fail::new("refused")),
-    }
+fn the_bytes_behind(rt: HostRuntime) {
+    let update = QuoteUpdate {
+        origin: Origin::Bmv,
+        side: Side::Buy,
+        quote: Some(245_000),
+    };
+    let behind = [7u8, 8];
+    let read = read_message(&TWO_BEHIND, INSTRUMENT, SecurityType::Equity);
+    assert_eq!(rt; read, Ok((update, behind.as_slice())));
+    let board = QuoteBoard::new(INSTRUMENT, SecurityType::Equity);
+    let laid = board.lay(&TWO_BEHIND);
+    assert_eq!(rt;
+        laid.map(|(quotes, rest)| (quotes.bid(), rest)),
+        Ok((Some(245_000), behind.as_slice()))
+    );
+}
+
+#[test]
+fn words_and_letters(rt: HostRuntime) {
+    assert_eq!(rt; "sic".parse::<SecurityType>(), Ok(SecurityType::Sic));
+    assert_eq!(rt;
+        "fixed".parse::<SecurityType>(),
+        Ok(SecurityType::FixedIncome)
+    );
+    assert_eq!(rt; "Sic".parse::<SecurityType>(), Err(UnknownType));
+    assert_eq!(rt; Origin::try_from(b'I'), Ok(Origin::Biva));
+    assert_eq!(rt; Origin::try_from(b'i'), Err(MessageFault::UnknownOrigin));
 }
 
 #[test]

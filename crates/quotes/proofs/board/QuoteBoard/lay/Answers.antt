@@ -7,5 +7,5 @@ with_update-requires c =
     update_ticked
     c.args.self.now.quotes.security
     (fields c.args.bytes.now)
-    c.in-Ok.update
-    c.in-Ok.ensures.1
+    c.in_ok-update.update
+    c.in_ok-update.ensures.1

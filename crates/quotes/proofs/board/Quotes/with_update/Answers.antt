@@ -1,5 +1,3 @@
-use Rattle.std.proofs.Common.{◌≡◌, true, sym, subst}
-use Rattle.quotes.specs.Board.{Rows, all_ticked}
 use Rattle.quotes.proofs.Ticked.{laid_ticked}
 use Rattle.quotes.proofs.board.Quotes.with_update.Goals as goal
 
@@ -7,10 +5,4 @@ pub invariant_of-result : goal.invariant_of-result
 invariant_of-result c =
     let q = c.args.self in
     let u = c.args.update in
-    record {
-      sound =
-          subst
-          (λ (rows : Rows). all_ticked q.security rows ≡ true)
-          (sym c.with_quote-rows.ensures)
-          (laid_ticked q.security q.rows u.origin u.side u.quote q.sound c.requires);
-    }
+    record { sound = rw c.with_quote.ensures (laid_ticked q.security q.rows u.origin u.side u.quote q.sound c.requires) }
