@@ -1,6 +1,3 @@
 pub mod Days
-mod Finding
-mod Listing
-mod Made
-mod Party
+pub mod Made
 mod Running

@@ -2,7 +2,7 @@
 use Rattle.std.proofs.Common.{◌≡◌, ℕ, ◌+◌, ◌-◌, ◌<◌, ◌≤◌, List, [], ◌∷◌, ◌++◌, length, get_or, take, drop, set, Ok, Err, Result, sym, refl, ap, ◌∙◌, subst, arith}
 use borrow.Rule.Slice.PartMut.{put_mid}
 use lib.Seq.{drop-append-add, take-append-add}
-use Rattle.std.proofs.lemmas.List.{append-nil, drop_all, drop-drop, length-append, length-drop, length-set, length-take-le, take_all, take_more_set, take_rest}
+use Rattle.std.proofs.lemmas.List.{append-nil, drop_all, drop-drop, drop-set-lt, length-append, length-drop, length-set, length-take-le, take_all, take_more_set, take_rest}
 use Rattle.orders.specs.declared.trade.Fill.{Fill}
 use Rattle.orders.specs.Kind.{Kind}
 use Rattle.orders.specs.Ranking.{Ranking}
@@ -12,34 +12,25 @@ use Rattle.rules.specs.declared.call.Call.{Call}
 use Rattle.rules.specs.declared.fault.BookFault.{BookFault}
 use Rattle.rules.specs.Day.{Day}
 use Rattle.rules.specs.Promises.{KeptThroughout, fills_of}
-use Rattle.matching.proofs.Places.{drop_written, take_read}
+use Rattle.matching.proofs.Places.{take_read}
+use Rattle.std.proofs.lemmas.Grind.{drop_more_same}
 use Rattle.book.specs.declared.open.OpenBook.{OpenBook}
 use Rattle.book.specs.Called.{TapeAfter, outcome}
 use Rattle.book.specs.Holding.{GoesOn, Holds, event}
 use Rattle.book.specs.Run.{AllTold, DayRun, MadeWith, Tells, calls_of, day_fills, told_fills}
 use Rattle.book.specs.View.{SameTable}
 
--- the answer tells the outcome that it has with the fills at the tape's front
-tells : (r : Result Answer BookFault) (before after : List Fill) → TapeAfter r before after → Tells r (outcome r after)
-tells (Ok (Filled n)) before after h = (take n after, refl, sym (length-take-le n after h.0))
-tells (Ok (Cancelled v)) before after h = refl
-tells (Err f) before after h = refl
+-- what an answer says of the part of the tape that its call was lent: its fills at the front, the rest as it was
+record Parted (r : Result Answer BookFault) (before after : List Fill) : Type 0 where
+  pub tells : Tells r (outcome r after)
+  pub front : take (told_fills r) after ≡ fills_of (outcome r after)
+  pub behind : drop (told_fills r) after ≡ drop (told_fills r) before
+  pub within : told_fills r ≤ length after
 
--- the part of the tape that a call was lent: its fills at the front, the rest as it was
-front_fills : (r : Result Answer BookFault) (before after : List Fill) → TapeAfter r before after → take (told_fills r) after ≡ fills_of (outcome r after)
-front_fills (Ok (Filled n)) before after h = refl
-front_fills (Ok (Cancelled v)) before after h = refl
-front_fills (Err f) before after h = refl
-
-behind_fills : (r : Result Answer BookFault) (before after : List Fill) → TapeAfter r before after → drop (told_fills r) after ≡ drop (told_fills r) before
-behind_fills (Ok (Filled n)) before after h = h.1
-behind_fills (Ok (Cancelled v)) before after h = h
-behind_fills (Err f) before after h = h
-
-fills_within : (r : Result Answer BookFault) (before after : List Fill) → TapeAfter r before after → told_fills r ≤ length after
-fills_within (Ok (Filled n)) before after h = h.0
-fills_within (Ok (Cancelled v)) before after h = omega arith
-fills_within (Err f) before after h = omega arith
+parted : (r : Result Answer BookFault) (before after : List Fill) → TapeAfter r before after → Parted r before after
+parted (Ok (Filled n)) before after h = record { tells = (take n after, refl, sym (length-take-le n after h.0)); front = refl; behind = h.1; within = h.0 }
+parted (Ok (Cancelled v)) before after h = record { tells = refl; front = refl; behind = h; within = omega arith }
+parted (Err f) before after h = record { tells = refl; front = refl; behind = h; within = omega arith }
 
 -- a write to all that lies behind a place
 written : {X : Type 0} (used : ℕ) (xs ys : List X) → put_mid used (length xs - used) xs ys ≡ take used xs ++ ys
@@ -72,60 +63,58 @@ pub record Running {O P : Type 0} (kind : Kind O) (rank : Ranking) (calls : List
   pub table : SameTable book₀ book
   pub kept_all : KeptThroughout kind day
 
-module _ {O P : Type 0} (kind : Kind O) (rank : Ranking) (calls : List (Call O)) (replies₀ : List (Result Answer BookFault)) (tape₀ : List Fill) (book₀ : OpenBook O P) where
-  -- one call more: it was lent the part of the tape behind the fills so far
-  one_more : (book after : OpenBook O P) (replies : List (Result Answer BookFault)) (tape part part_after : List Fill) (used i : ℕ) (call : Call O) (r : Result Answer BookFault) → Running kind rank calls replies₀ tape₀ book₀ book replies tape used i → i < length calls → i < length replies → call ≡ get_or calls i call → part ≡ take (length tape - used) (drop used tape) → length part_after ≡ length part → TapeAfter r part part_after → SameTable book after → ((day : Day O) → Holds kind book day → GoesOn kind after (event rank call (length part) (outcome r part_after)) day) → Running kind rank calls replies₀ tape₀ book₀ after (set replies i r) (put_mid used (length tape - used) tape part_after) (used + told_fills r) (i + 1)
-  one_more book after replies tape part part_after used i call r run below room read is same_part taped same carries =
+module _ {O P : Type 0} {kind : Kind O} {rank : Ranking} {calls : List (Call O)} {replies₀ : List (Result Answer BookFault)} {tape₀ : List Fill} {book₀ book : OpenBook O P} {replies : List (Result Answer BookFault)} {tape : List Fill} {used i : ℕ} (run : Running kind rank calls replies₀ tape₀ book₀ book replies tape used i) where
+  -- what the next call is lent: the part of the tape behind the fills so far
+  abbrev lent : List Fill
+  lent = take (length tape - used) (drop used tape)
+
+  -- one call more
+  pub running_more : (after : OpenBook O P) (lent_after : List Fill) (call : Call O) (r : Result Answer BookFault) (told : ℕ) → told ≡ told_fills r → i < length calls → i < length replies → call ≡ get_or calls i call → length lent_after ≡ length lent → TapeAfter r lent lent_after → SameTable book after → ((day : Day O) → Holds kind book day → GoesOn kind after (event rank call (length lent) (outcome r lent_after)) day) → Running kind rank calls replies₀ tape₀ book₀ after (set replies i r) (put_mid used (length tape - used) tape lent_after) (used + told) (i + 1)
+  running_more after lent_after call r told told_is below room read same_long taped same carries =
       let on = carries run.day run.holds in
-      let rest : part ≡ drop used tape = is ∙ take_rest tape used in
-      let rest_long : length part ≡ length tape - used = ap length rest ∙ length-drop used tape in
+      let rest : lent ≡ drop used tape = take_rest tape used in
+      let rest_long : length lent ≡ length tape - used = ap length rest ∙ length-drop used tape in
       let front_long : length (take used tape) ≡ used = length-take-le used tape run.fits in
       let made_long : length (day_fills run.day) ≡ used = sym (ap length run.fills_are) ∙ front_long in
-      let now = written used tape part_after in
-      let within = fills_within r part part_after taped in
-      let long : length (take used tape ++ part_after) ≡ length tape = length-append (take used tape) part_after ∙ (omega (arith, run.fits)) in
-      record {
-        day = event rank call (length part) (outcome r part_after) ∷ run.day;
+      let now = written used tape lent_after in
+      let part = parted r lent lent_after taped in
+      let long : length (take used tape ++ lent_after) ≡ length tape = length-append (take used tape) lent_after ∙ (omega (arith, run.fits)) in
+      subst (λ (n : ℕ). Running kind rank calls replies₀ tape₀ book₀ after (set replies i r) (put_mid used (length tape - used) tape lent_after) (used + n) (i + 1)) (sym told_is)
+      (record {
+        day = event rank call (length lent) (outcome r lent_after) ∷ run.day;
         holds = on.holds;
         made = ap (λ cs. cs ++ (call ∷ [])) run.made ∙ sym (take_read calls i call below read);
         made_with = (refl, omega (arith, run.tape_long), run.made_with);
-        told = (take i replies, r, take_more_set replies i r room, tells r part part_after taped, run.told);
-        replies_behind = drop_written replies₀ replies i i r (omega arith) run.replies_behind;
+        told = (take i replies, r, take_more_set replies i r room, part.tells, run.told);
+        replies_behind = drop-set-lt (i + 1) replies i r (omega arith) ∙ drop_more_same replies replies₀ i run.replies_behind;
         replies_long = length-set replies i r ∙ run.replies_long;
         fills_are =
             ap (take (used + told_fills r)) now
-            ∙ take_front (take used tape) part_after used (told_fills r) front_long
-            ∙ ap (λ fs. fs ++ take (told_fills r) part_after) run.fills_are
-            ∙ ap (λ fs. day_fills run.day ++ fs) (front_fills r part part_after taped);
+            ∙ take_front (take used tape) lent_after used (told_fills r) front_long
+            ∙ ap (λ fs. fs ++ take (told_fills r) lent_after) run.fills_are
+            ∙ ap (λ fs. day_fills run.day ++ fs) part.front;
         fits = let n = ap length now in omega arith;
         tape_behind =
             ap (drop (used + told_fills r)) now
-            ∙ drop_front (take used tape) part_after used (told_fills r) front_long
-            ∙ behind_fills r part part_after taped
+            ∙ drop_front (take used tape) lent_after used (told_fills r) front_long
+            ∙ part.behind
             ∙ ap (drop (told_fills r)) (rest ∙ run.tape_behind)
             ∙ drop-drop (told_fills r) used tape₀;
         tape_long = ap length now ∙ long ∙ run.tape_long;
         table = same_twice book₀ book after run.table same;
         kept_all = on.kept;
-      }
-
-  -- the same as the code has it: n is the length of the tape, told how many fills the answer tells
-  pub running_more : (book after : OpenBook O P) (replies : List (Result Answer BookFault)) (tape part part_after : List Fill) (used i n told : ℕ) (call : Call O) (r : Result Answer BookFault) → n ≡ length tape₀ → told ≡ told_fills r → Running kind rank calls replies₀ tape₀ book₀ book replies tape used i → i < length calls → i < length replies → call ≡ get_or calls i call → part ≡ take (n - used) (drop used tape) → length part_after ≡ length part → TapeAfter r part part_after → SameTable book after → ((day : Day O) → Holds kind book day → GoesOn kind after (event rank call (length part) (outcome r part_after)) day) → Running kind rank calls replies₀ tape₀ book₀ after (set replies i r) (put_mid used (n - used) tape part_after) (used + told) (i + 1)
-  running_more book after replies tape part part_after used i n told call r long_is told_is run below room read part_is same_part taped same carries =
-      subst (λ (m : ℕ). Running kind rank calls replies₀ tape₀ book₀ after (set replies i r) (put_mid used (m - used) tape part_after) (used + told) (i + 1)) (run.tape_long ∙ sym long_is)
-      (subst (λ (m : ℕ). Running kind rank calls replies₀ tape₀ book₀ after (set replies i r) (put_mid used (length tape - used) tape part_after) (used + m) (i + 1)) (sym told_is)
-      (one_more book after replies tape part part_after used i call r run below room read (part_is ∙ ap (λ m. take (m - used) (drop used tape)) (long_is ∙ sym run.tape_long)) same_part taped same carries))
+      })
 
   -- all calls made
-  pub ran : (book : OpenBook O P) (replies : List (Result Answer BookFault)) (tape : List Fill) (used i : ℕ) → i ≡ length calls → Running kind rank calls replies₀ tape₀ book₀ book replies tape used i → DayRun kind rank calls replies₀ tape₀ book replies tape used
-  ran book replies tape used i all run =
+  pub ran : i ≡ length calls → DayRun kind rank calls replies₀ tape₀ book replies tape used
+  ran all =
       record {
         day = run.day;
         holds = run.holds;
         made = run.made ∙ take_all i calls (omega arith);
         made_with = run.made_with;
-        told = subst (λ (n : ℕ). AllTold run.day (take n replies)) all run.told;
-        replies_behind = subst (λ (n : ℕ). drop n replies ≡ drop n replies₀) all run.replies_behind;
+        told = rw (← all) run.told;
+        replies_behind = rw (← all) run.replies_behind;
         fills_are = run.fills_are;
         fills_counted = sym (length-take-le used tape run.fits) ∙ ap length run.fills_are;
         tape_behind = run.tape_behind;

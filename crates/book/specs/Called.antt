@@ -23,18 +23,9 @@ cancel_outcome (Ok volume) = cancelled volume
 cancel_outcome (Err fault) = refused (refusal fault).number
 
 abbrev pub outcome : Result Answer BookFault → List Fill → Outcome
-outcome (Ok (Filled n)) tape = filled (take n tape)
-outcome (Ok (Cancelled volume)) tape = cancelled volume
+outcome (Ok (Filled n)) tape = fills_outcome (Ok n) tape
+outcome (Ok (Cancelled volume)) tape = cancel_outcome (Ok volume)
 outcome (Err fault) tape = refused (refusal fault).number
-
--- the answer of a call that answers its fills, and of a cancel
-abbrev pub fills_answer : Result ℕ BookFault → Result Answer BookFault
-fills_answer (Ok n) = Ok (Filled n)
-fills_answer (Err fault) = Err fault
-
-abbrev pub cancel_answer : Result ℕ BookFault → Result Answer BookFault
-cancel_answer (Ok volume) = Ok (Cancelled volume)
-cancel_answer (Err fault) = Err fault
 
 -- the fills stand at the tape's front, and the rest of the tape is unchanged; a refusal leaves it whole
 abbrev pub FillsAtFront : Result ℕ BookFault → List Fill → List Fill → Type 0
@@ -42,9 +33,9 @@ FillsAtFront (Ok n) before after = (n ≤ length after) × (drop n after ≡ dro
 FillsAtFront (Err fault) before after = after ≡ before
 
 abbrev pub TapeAfter : Result Answer BookFault → List Fill → List Fill → Type 0
-TapeAfter (Ok (Filled n)) before after = (n ≤ length after) × (drop n after ≡ drop n before)
+TapeAfter (Ok (Filled n)) before after = FillsAtFront (Ok n) before after
 TapeAfter (Ok (Cancelled volume)) before after = after ≡ before
-TapeAfter (Err fault) before after = after ≡ before
+TapeAfter (Err fault) before after = FillsAtFront (Err fault) before after
 
 -- the outcome is right over what the book held, and the book then holds what such a call leaves
 pub record Called {O P : Type 0} (kind : Kind O) (rank : Ranking) (before : OpenBook O P) (call : Call O) (tape : ℕ) (out : Outcome) (after : OpenBook O P) : Type 0 where

@@ -1,14 +1,23 @@
 // The questions before each call, in their order.
-ghost use Rattle.std.specs.Prelude.{◌≡◌, ◌&&◌, length, IfOk, Some, ◌==◌};
+ghost use Rattle.std.specs.Prelude.{◌≡◌, ◌&&◌, IfOk, Some, ◌==◌};
 ghost use Rattle.orders.specs.Limits.{volume_in_range};
-ghost use Rattle.rules.specs.Questions.{State, entry_questions, cross_questions, price_questions};
+ghost use Rattle.rules.specs.Calls.{TakesOut};
+ghost use Rattle.rules.specs.Questions.{capacity_of, cancel_questions, questions};
+ghost use Rattle.rules.specs.declared.call.Call.TheVariants.{Enter, Cancel, Price, Cross};
 ghost use Rattle.book.specs.Asked.{Asked, party_questions};
+ghost use Rattle.book.specs.View.{places, view};
 
+use crate::open::OpenBook;
+use crate::table::find_folio;
 use base::is_price;
 use orders::limits::{is_folio, is_house, is_volume};
 use orders::order::Order;
+use orders::priority::Priority;
 use orders::trade::{Header, Party};
 use rules::fault::BookFault;
+
+// A book has at most this many places, however many its table has.
+const CAPACITY: usize = 512;
 
 // In range, and all of it left?
 fn is_whole(header: &Header) -> bool
@@ -17,86 +26,91 @@ fn is_whole(header: &Header) -> bool
     is_volume(header.entered) && header.left == header.entered
 }
 
-// The house and the folio of an entry or a cross.
-fn ask_party(party: Party, highest: u32) -> Result<(), BookFault>
-    ensures { Asked (party_questions party highest) result }
-{
-    if !is_house(party.house) {
-        return Err(BookFault::HouseOutOfRange);
+// Each is asked with the places that the tape has.
+impl<'a, O: Order, P: Priority> OpenBook<'a, O, P> {
+    // How many orders may rest.
+    fn capacity(&self) -> usize
+        ensures { result ≡ capacity_of (places self.now) }
+    {
+        self.table.len().min(CAPACITY)
     }
-    if !is_folio(party.folio) || party.folio <= highest {
-        return Err(BookFault::FolioNotNext);
-    }
-    Ok(())
-}
 
-// The volume of an entry, the kind's own questions, and whether the book and the tape have room.
-pub(crate) fn ask_entry<O: Order>(
-    order: &O,
-    highest: u32,
-    resting: usize,
-    capacity: usize,
-    places: usize,
-) -> Result<(), BookFault>
-    ensures { (st : State O) → length st.resting ≡ resting → st.highest ≡ highest → Asked (entry_questions O.kind capacity st places order.now) result }
-{
-    let header = order.header();
-    ask_party(header.party, highest)?;
-    if !is_whole(&header) {
-        return Err(BookFault::VolumeOutOfRange);
+    // The house and the folio of an entry or a cross.
+    fn ask_party(&self, party: Party) -> Result<(), BookFault>
+        ensures { Asked (party_questions party self.now.highest) result }
+    {
+        if !is_house(party.house) {
+            return Err(BookFault::HouseOutOfRange);
+        }
+        if !is_folio(party.folio) || party.folio <= self.highest {
+            return Err(BookFault::FolioNotNext);
+        }
+        Ok(())
     }
-    let own = order.own_refusal();
-    if own != 0 {
-        return Err(BookFault::Own(own));
-    }
-    if capacity <= resting {
-        return Err(BookFault::BookFull);
-    }
-    if places < resting {
-        return Err(BookFault::TapeTooShort);
-    }
-    Ok(())
-}
 
-// A cross; where it may be made, the price in force.
-pub(crate) fn ask_cross<O: Order>(
-    party: Party,
-    volume: u32,
-    highest: u32,
-    price: Option<u32>,
-    places: usize,
-) -> Result<u32, BookFault>
-    ensures asked { (st : State O) → st.highest ≡ highest → st.price ≡ price → Asked (cross_questions O.kind st places party volume) result }
-    ensures made { IfOk result (λ p. price ≡ Some p) }
-{
-    if let Err(fault) = ask_party(party, highest) {
-        return Err(fault);
+    // The house, the folio and the volume of an entry, the kind's own questions, and whether the book and the tape
+    // have room.
+    pub(crate) fn ask_entry(&self, order: &O, tape: usize) -> Result<(), BookFault>
+        ensures { Asked (questions O.kind (capacity_of (places self.now)) (view self.now) tape (Enter order.now)) result }
+    {
+        let header = order.header();
+        self.ask_party(header.party)?;
+        if !is_whole(&header) {
+            return Err(BookFault::VolumeOutOfRange);
+        }
+        order.ask_own()?;
+        if self.capacity() <= self.resting {
+            return Err(BookFault::BookFull);
+        }
+        if tape < self.resting {
+            return Err(BookFault::TapeTooShort);
+        }
+        Ok(())
     }
-    if !is_volume(volume) {
-        return Err(BookFault::VolumeOutOfRange);
-    }
-    let Some(in_force) = price else {
-        return Err(BookFault::NoPriceInForce);
-    };
-    if places < 1 {
-        return Err(BookFault::TapeTooShort);
-    }
-    Ok(in_force)
-}
 
-// A price to be put in force, over that many resting orders.
-pub(crate) fn ask_price<O: Order>(
-    price: u32,
-    resting: usize,
-    places: usize,
-) -> Result<(), BookFault>
-    ensures { (st : State O) → length st.resting ≡ resting → Asked (price_questions O.kind st places (Some price)) result }
-{
-    if !is_price(price) {
-        return Err(BookFault::PriceOutOfRange);
+    // A cancel; where it may be made, the volume that the order has left.
+    pub(crate) fn ask_cancel(&self, party: Party) -> Result<u32, BookFault>
+        ensures asked { Asked (cancel_questions O.kind (view self.now) party) result }
+        ensures taken { IfOk result (TakesOut O.kind (view self.now) (Cancel party)) }
+    {
+        let header = find_folio(&self.table[..self.resting], party.folio).ok_or(
+            BookFault::UnknownFolio,
+        )?;
+        if header.party.house != party.house {
+            return Err(BookFault::OtherHouse);
+        }
+        Ok(header.left)
     }
-    if places < resting.saturating_sub(1) {
-        return Err(BookFault::TapeTooShort);
+
+    // A cross; where it may be made, the price in force.
+    pub(crate) fn ask_cross(&self, party: Party, volume: u32, tape: usize) -> Result<u32, BookFault>
+        ensures asked { Asked (questions O.kind (capacity_of (places self.now)) (view self.now) tape (Cross party volume)) result }
+        ensures made { IfOk result (λ p. self.now.price ≡ Some p) }
+    {
+        self.ask_party(party)?;
+        if !is_volume(volume) {
+            return Err(BookFault::VolumeOutOfRange);
+        }
+        let price = self.price.ok_or(BookFault::NoPriceInForce)?;
+        if tape < 1 {
+            return Err(BookFault::TapeTooShort);
+        }
+        Ok(price)
     }
-    Ok(())
+
+    // A price to be put in force, or none.
+    pub(crate) fn ask_price(&self, price: Option<u32>, tape: usize) -> Result<(), BookFault>
+        ensures { Asked (questions O.kind (capacity_of (places self.now)) (view self.now) tape (Price price)) result }
+    {
+        let Some(price) = price else {
+            return Ok(());
+        };
+        if !is_price(price) {
+            return Err(BookFault::PriceOutOfRange);
+        }
+        if tape < self.resting.saturating_sub(1) {
+            return Err(BookFault::TapeTooShort);
+        }
+        Ok(())
+    }
 }

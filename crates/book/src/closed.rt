@@ -1,13 +1,12 @@
 // The closed book: it takes no call, tells what is left, and gives its table back.
-ghost use Rattle.std.specs.Prelude.{◌≡◌};
-ghost use Rattle.book.specs.Closed.{Listed, resting_orders};
+ghost use Rattle.std.specs.Prelude.{◌≡◌, ◌≤◌, length};
 
-use crate::table::{resting_in, write_unfilled};
+use crate::table::write_unfilled;
 use orders::order::Order;
 use rules::fault::BookFault;
 
 // The folio of an order that was not filled to the end, and the volume that it has left.
-#[derive(Clone, Copy)]
+#[derive(Clone, Copy, PartialEq, Eq, Debug, Default)]
 pub struct Unfilled {
     pub folio: u32,
     pub left: u32,
@@ -16,19 +15,22 @@ pub struct Unfilled {
 pub struct ClosedBook<'a, O> {
     pub(crate) table: &'a mut [O],
     pub(crate) resting: usize,
+    // The first orders of the table rest.
+    ghost fits: { resting ≤ length table.now },
 }
 
 impl<'a, O: Order> ClosedBook<'a, O> {
+    ghost use Rattle.book.specs.Closed.{Listed, resting_orders};
+
     // Writes the orders that are left, in rising folio, at the list's front, and answers their number.
     pub fn unfilled(&self, list: &mut [Unfilled]) -> Result<usize, BookFault>
         ensures { Listed O.kind (resting_orders self.now) list.old list.new result }
     {
-        let rests = resting_in(self.table, self.resting);
-        if list.len() < rests {
+        if list.len() < self.resting {
             return Err(BookFault::ListTooShort);
         }
-        write_unfilled(self.table, rests, list);
-        Ok(rests)
+        write_unfilled(&self.table[..self.resting], list);
+        Ok(self.resting)
     }
 
     // Gives the table back.

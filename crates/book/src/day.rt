@@ -50,9 +50,9 @@ pub fn run_day<'a, O: Order, P: Priority>(
         };
     }
     let mut used = 0;
-    let end = tape.len();
-    for place in 0..calls.len() {
-        let reply = book.apply(calls[place], &mut tape[used..end]);
+    // By place: after a zip with `iter_mut` the check knows nothing of what was written.
+    for (place, call) in calls.iter().enumerate() {
+        let reply = book.apply(*call, &mut tape[used..]);
         used += fills_told(&reply);
         replies[place] = reply;
     }

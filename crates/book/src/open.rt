@@ -1,37 +1,37 @@
 // The open book, over a table that is lent to it.
-ghost use Rattle.std.specs.Prelude.{◌≡◌, ℕ, ◌≤◌, [], length, take};
-ghost use Rattle.std.specs.Option.{option_map};
-ghost use Rattle.rules.specs.Questions.{order_of};
-ghost use Rattle.rules.specs.declared.call.Call.TheVariants.{Enter, Cancel, Price, Cross};
-ghost use Rattle.rules.specs.Day.{Day, new_state};
-ghost use Rattle.book.specs.Called.{Called, FillsAtFront, TapeAfter, cancel_answer, cancel_outcome, fills_answer, fills_outcome, outcome};
-ghost use Rattle.book.specs.Closed.{resting_orders};
-ghost use Rattle.book.specs.Holding.{GoesOn, Holds, event};
-ghost use Rattle.book.specs.View.{view, places, Free, SameTable};
+ghost use Rattle.std.specs.Prelude.{◌≡◌, ◌≤◌, length};
 
-use crate::ask::{ask_cross, ask_entry, ask_price};
 use crate::closed::ClosedBook;
-use crate::table::{admit, find_folio, remove_folio, resting_in, sweep_at};
+use crate::table::remove_folio;
+use matching::sweep::sweep;
 use orders::order::Order;
 use orders::priority::Priority;
-use orders::trade::{Fill, Header, Party};
+use orders::trade::{Fill, Party};
 use rules::call::{Answer, Call};
 use rules::fault::BookFault;
 use std::marker::PhantomData;
 
-// A book has at most this many places, however many its table has.
-const CAPACITY: usize = 512;
-
 // Its one priority is a parameter of its type, so every call on it uses the same.
 pub struct OpenBook<'a, O, P> {
-    table: &'a mut [O],
-    resting: usize,
-    price: Option<u32>,
-    highest: u32,
+    pub(crate) table: &'a mut [O],
+    pub(crate) resting: usize,
+    pub(crate) price: Option<u32>,
+    pub(crate) highest: u32,
     priority: PhantomData<P>,
+    // The first orders of the table rest.
+    ghost fits: { resting ≤ length table.now },
 }
 
 impl<'a, O: Order, P: Priority> OpenBook<'a, O, P> {
+    ghost use Rattle.std.specs.Prelude.{ℕ, ◌-◌, [], OnSome};
+    ghost use Rattle.rules.specs.declared.call.Call.TheVariants.{Enter, Cancel, Price, Cross};
+    ghost use Rattle.rules.specs.Day.{Day, new_state};
+    ghost use Rattle.book.specs.Called.{Called, FillsAtFront, TapeAfter, cancel_outcome, fills_outcome, outcome};
+    ghost use Rattle.book.specs.Closed.{resting_orders};
+    ghost use Rattle.book.specs.Holding.{GoesOn, Holds, event};
+    ghost use Rattle.book.specs.Swept.{SweptBook};
+    ghost use Rattle.book.specs.View.{view, places, Free, SameTable};
+
     // A new book over the table: nothing rests, no price is in force, and the highest folio is 0.
     pub fn new(table: &'a mut [O]) -> OpenBook<'a, O, P>
         ensures state { view result ≡ new_state }
@@ -48,13 +48,18 @@ impl<'a, O: Order, P: Priority> OpenBook<'a, O, P> {
             priority: PhantomData,
         }
     }
-    // How many orders rest.
-    fn rests(&self) -> usize
-        ensures value { result ≡ length (view self.now).resting }
-        ensures within { result ≤ places self.now }
-        ensures front { take result self.now.table.now ≡ (view self.now).resting }
+
+    // Sweeps at the price in force, if there is one; the tape then has room for all fills. Answers how many that made.
+    fn sweep(&mut self, tape: &mut [Fill]) -> usize
+        requires { OnSome self.old.price (self.old.resting - 1 ≤ length tape.old) }
+        ensures { SweptBook O.kind P.ranking self.old tape.old self.new tape.new result }
     {
-        resting_in(self.table, self.resting)
+        let Some(price) = self.price else {
+            return 0;
+        };
+        let swept = sweep::<O, P>(&mut self.table[..self.resting], price, tape).unwrap();
+        self.resting = swept.resting;
+        swept.fills
     }
 
     // Adds the order and sweeps at the price in force. Answers how many fills that made.
@@ -63,40 +68,22 @@ impl<'a, O: Order, P: Priority> OpenBook<'a, O, P> {
         ensures tape { FillsAtFront result tape.old tape.new }
         ensures table { SameTable self.old self.new }
     {
-        let resting = self.rests();
-        let capacity = self.table.len().min(CAPACITY);
-        if let Err(fault) = ask_entry(&order, self.highest, resting, capacity, tape.len()) {
-            return Err(fault);
-        }
-        let folio = order.header().party.folio;
-        let price = self.price;
-        let done = admit::<O, P>(self.table, resting, order, price, tape);
-        self.resting = done.resting;
-        self.highest = folio;
-        Ok(done.fills)
-    }
-    // What the resting order with the folio shows.
-    fn shown(&self, folio: u32) -> Option<Header>
-        ensures { result ≡ option_map O.kind.header (order_of O.kind folio (view self.now).resting) }
-    {
-        find_folio(self.table, self.rests(), folio)
+        self.ask_entry(&order, tape.len())?;
+        self.highest = order.header().party.folio;
+        self.table[self.resting] = order;
+        self.resting += 1;
+        Ok(self.sweep(tape))
     }
 
     // Takes the house's order with the folio out. Answers the volume that it had left.
+    #[tactic(auto, using(crate::proofs::Made::taken_out))]
     pub fn cancel(&mut self, party: Party) -> Result<u32, BookFault>
         ensures called { (tape : ℕ) → Called O.kind P.ranking self.old (Cancel party) tape (cancel_outcome result) self.new }
         ensures table { SameTable self.old self.new }
     {
-        let resting = self.rests();
-        let Some(header) = self.shown(party.folio) else {
-            return Err(BookFault::UnknownFolio);
-        };
-        if header.party.house != party.house {
-            return Err(BookFault::OtherHouse);
-        }
-        let rests = remove_folio(self.table, resting, party.folio);
-        self.resting = rests;
-        Ok(header.left)
+        let left = self.ask_cancel(party)?;
+        self.resting = remove_folio(&mut self.table[..self.resting], party.folio);
+        Ok(left)
     }
 
     // Puts a price in force, or none, and sweeps at it. Answers how many fills that made.
@@ -105,18 +92,9 @@ impl<'a, O: Order, P: Priority> OpenBook<'a, O, P> {
         ensures tape { FillsAtFront result tape.old tape.new }
         ensures table { SameTable self.old self.new }
     {
-        let Some(in_force) = price else {
-            self.price = None;
-            return Ok(0);
-        };
-        let resting = self.rests();
-        if let Err(fault) = ask_price::<O>(in_force, resting, tape.len()) {
-            return Err(fault);
-        }
-        let done = sweep_at::<O, P>(self.table, resting, price, tape);
-        self.resting = done.resting;
+        self.ask_price(price, tape.len())?;
         self.price = price;
-        Ok(done.fills)
+        Ok(self.sweep(tape))
     }
 
     // Trades a volume within one house at the price in force; no order takes part. Answers its one fill.
@@ -130,10 +108,7 @@ impl<'a, O: Order, P: Priority> OpenBook<'a, O, P> {
         ensures tape { FillsAtFront result tape.old tape.new }
         ensures table { SameTable self.old self.new }
     {
-        let price = match ask_cross::<O>(party, volume, self.highest, self.price, tape.len()) {
-            Err(fault) => return Err(fault),
-            Ok(price) => price,
-        };
+        let price = self.ask_cross(party, volume, tape.len())?;
         tape[0] = Fill {
             price,
             volume,
@@ -143,8 +118,10 @@ impl<'a, O: Order, P: Priority> OpenBook<'a, O, P> {
         self.highest = party.folio;
         Ok(1)
     }
+
     // Makes a call, whichever it is. For every lawful day that the book holds, the day goes on by this call: it stays
     // lawful, the book holds it, and every promise is kept throughout it.
+    #[tactic(auto, using(crate::proofs::Days::goes_on))]
     pub fn apply(&mut self, call: Call<O>, tape: &mut [Fill]) -> Result<Answer, BookFault>
         ensures called { Called O.kind P.ranking self.old call (length tape.old) (outcome result tape.new) self.new }
         ensures tape { TapeAfter result tape.old tape.new }
@@ -152,15 +129,13 @@ impl<'a, O: Order, P: Priority> OpenBook<'a, O, P> {
         ensures day { (day : Day O) → Holds O.kind self.old day → GoesOn O.kind self.new (event P.ranking call (length tape.old) (outcome result tape.new)) day }
     {
         match call {
-            Call::Enter(order) => fills_answer(self.enter(order, tape)),
-            Call::Cancel(party) => cancel_answer(self.cancel(party)),
-            Call::Price(price) => fills_answer(self.set_price(price, tape)),
-            Call::Cross { party, volume } => fills_answer(self.cross(party, volume, tape)),
+            Call::Enter(order) => self.enter(order, tape).map(Answer::Filled),
+            Call::Cancel(party) => self.cancel(party).map(Answer::Cancelled),
+            Call::Price(price) => self.set_price(price, tape).map(Answer::Filled),
+            Call::Cross { party, volume } => self.cross(party, volume, tape).map(Answer::Filled),
         }
     }
-}
 
-impl<'a, O: Order, P: Priority> OpenBook<'a, O, P> {
     // Ends trading. No fill is made.
     pub fn close(self) -> ClosedBook<'a, O>
         ensures resting { resting_orders result ≡ (view self.entry).resting }
@@ -176,23 +151,5 @@ impl<'a, O: Order, P: Priority> OpenBook<'a, O, P> {
             priority: _,
         } = self;
         ClosedBook { table, resting }
-    }
-}
-
-fn fills_answer(fills: Result<usize, BookFault>) -> Result<Answer, BookFault>
-    ensures { result ≡ fills_answer fills }
-{
-    match fills {
-        Ok(n) => Ok(Answer::Filled(n)),
-        Err(fault) => Err(fault),
-    }
-}
-
-fn cancel_answer(volume: Result<u32, BookFault>) -> Result<Answer, BookFault>
-    ensures { result ≡ cancel_answer volume }
-{
-    match volume {
-        Ok(left) => Ok(Answer::Cancelled(left)),
-        Err(fault) => Err(fault),
     }
 }

@@ -1,102 +1,45 @@
-// Work on the table of orders: its first orders rest, in rising folio and without gaps.
-ghost use Rattle.std.specs.Prelude.{◌≡◌, ◌+◌, ◌-◌, ◌<◌, ◌≤◌, [], ◌∷◌, ◌++◌, map, length, take, drop, filter, OnSome};
+// Work on the orders that rest.
+ghost use Rattle.std.specs.Prelude.{◌≡◌, ◌≤◌, ◌==◌, map, length, take, drop, filter};
 ghost use Rattle.std.specs.Option.{option_map};
+ghost use Rattle.std.specs.List.{find};
 ghost use Rattle.rules.specs.Calls.{other_folio};
-ghost use Rattle.rules.specs.Questions.{order_of};
 ghost use Rattle.book.specs.Closed.{unfilled_of};
-ghost use Rattle.book.specs.Swept.{SweptAt};
 
 use crate::closed::Unfilled;
-use matching::sweep::{Swept, sweep};
+use matching::closing_up::close_up;
 use orders::order::Order;
-use orders::priority::Priority;
-use orders::trade::{Fill, Header};
+use orders::trade::Header;
 
-// How many orders rest: the number that the book keeps, and never more than the table has.
-pub(crate) fn resting_in<O: Order>(table: &[O], resting: usize) -> usize
-    ensures value { result ≡ length (take resting table.now) }
-    ensures within { result ≤ length table.now }
-    ensures front { take result table.now ≡ take resting table.now }
+// What the order with the folio shows.
+pub(crate) fn find_folio<O: Order>(orders: &[O], folio: u32) -> Option<Header>
+    ensures { result ≡ option_map O.kind.header (find (λ o. (O.kind.header o).party.folio == folio) orders.now) }
 {
-    resting.min(table.len())
-}
-
-// What the resting order with the folio shows.
-pub(crate) fn find_folio<O: Order>(table: &[O], resting: usize, folio: u32) -> Option<Header>
-    requires { resting ≤ length table.now }
-    ensures { result ≡ option_map O.kind.header (order_of O.kind folio (take resting table.now)) }
-{
-    for place in 0..resting {
-        let header = table[place].header();
-        if header.party.folio == folio {
-            return Some(header);
-        }
-    }
-    None
+    orders
+        .iter()
+        .find(|order| order.header().party.folio == folio)
+        .map(|order| order.header())
 }
 
 // Takes the order with the folio out and closes up. Answers how many then rest.
-pub(crate) fn remove_folio<O: Order>(table: &mut [O], resting: usize, folio: u32) -> usize
-    requires { resting ≤ length table.old }
-    ensures front { take result table.new ≡ filter (other_folio O.kind folio) (take resting table.old) }
-    ensures bound { result ≤ resting }
+pub(crate) fn remove_folio<O: Order>(orders: &mut [O], folio: u32) -> usize
+    ensures front { take result orders.new ≡ filter (other_folio O.kind folio) orders.old }
+    ensures bound { result ≤ length orders.old }
 {
-    let mut end = 0;
-    for place in 0..resting {
-        let order = table[place];
-        if order.header().party.folio != folio {
-            table[end] = order;
-            end += 1;
-        }
-    }
-    end
+    close_up(
+        orders,
+        |order| (order.header().party.folio != folio).then_some(*order),
+    )
 }
 
-// Sweeps the resting orders at the price in force, if there is one; the tape then has room for all fills.
-pub(crate) fn sweep_at<O: Order, P: Priority>(
-    table: &mut [O],
-    resting: usize,
-    price: Option<u32>,
-    tape: &mut [Fill],
-) -> Swept
-    requires within { resting ≤ length table.old }
-    requires room { OnSome price (resting - 1 ≤ length tape.old) }
-    ensures { SweptAt O.kind P.ranking price (take resting table.old) tape.old table.new tape.new result }
+// Writes what the orders have left at the list's front.
+pub(crate) fn write_unfilled<O: Order>(orders: &[O], list: &mut [Unfilled])
+    requires { length orders.now ≤ length list.old }
+    ensures front { take (length orders.now) list.new ≡ map (unfilled_of O.kind) orders.now }
+    ensures behind { drop (length orders.now) list.new ≡ drop (length orders.now) list.old }
 {
-    let Some(price) = price else {
-        return Swept { fills: 0, resting };
-    };
-    match sweep::<O, P>(table, resting, price, tape) {
-        Some(done) => done,
-        None => unreachable(),
-    }
-}
-
-// Puts an order behind the resting ones and sweeps.
-pub(crate) fn admit<O: Order, P: Priority>(
-    table: &mut [O],
-    resting: usize,
-    order: O,
-    price: Option<u32>,
-    tape: &mut [Fill],
-) -> Swept
-    requires within { resting < length table.old }
-    requires room { resting ≤ length tape.old }
-    ensures { SweptAt O.kind P.ranking price (take resting table.old ++ (order ∷ [])) tape.old table.new tape.new result }
-{
-    table[resting] = order;
-    sweep_at::<O, P>(table, resting + 1, price, tape)
-}
-
-// Writes what the first orders of the table have left at the list's front.
-pub(crate) fn write_unfilled<O: Order>(table: &[O], resting: usize, list: &mut [Unfilled])
-    requires within { resting ≤ length table.now }
-    requires room { resting ≤ length list.old }
-    ensures front { take resting list.new ≡ map (unfilled_of O.kind) (take resting table.now) }
-    ensures behind { drop resting list.new ≡ drop resting list.old }
-{
-    for place in 0..resting {
-        let header = table[place].header();
+    // By place: tried as a zip with `iter_mut`, after which the check knows nothing of what was written.
+    for (place, order) in orders.iter().enumerate() {
+        let header = order.header();
         list[place] = Unfilled {
             folio: header.party.folio,
             left: header.left,

@@ -8,15 +8,6 @@ use orders::trade::{Fill, Header, Party};
 use quotes::board::QuoteBoard;
 use quotes::ticks::SecurityType;
 
-const NOBODY: Party = Party { house: 0, folio: 0 };
-
-const NO_FILL: Fill = Fill {
-    price: 0,
-    volume: 0,
-    buyer: NOBODY,
-    seller: NOBODY,
-};
-
 fn order(side: Side, house: u32, folio: u32) -> ClosingOrder {
     ClosingOrder {
         header: Header {
@@ -42,8 +33,8 @@ const OFFER: [u8; 27] = [
     0, 0, 0, 0, 0x92, 0x17, 0x4a, 0xc0, b'V', b'T', 7, 8, 9,
 ];
 
-fn quotes_refuse(number: u32) -> Option<Refusal> {
-    Some(Refusal {
+fn quotes_refuse(number: u32) -> Told {
+    Err(Refusal {
         number,
         layer: Layer::Quotes,
         place: 0,
@@ -51,7 +42,7 @@ fn quotes_refuse(number: u32) -> Option<Refusal> {
 }
 
 // A message's answer: its fills and the number of bytes behind it, or its refusal.
-type Told = (Option<(usize, usize)>, Option<Refusal>);
+type Told = Result<(usize, usize), Refusal>;
 
 fn fed(
     board: &mut QuoteBoard,
@@ -59,10 +50,9 @@ fn fed(
     bytes: &[u8],
     tape: &mut [Fill],
 ) -> Told {
-    match feed(board, book, bytes, tape) {
-        Ok((fills, rest)) => (Some((fills, rest.len())), None),
-        Err(fault) => (None, Some(fault.refusal())),
-    }
+    feed(board, book, bytes, tape)
+        .map(|(fills, rest)| (fills, rest.len()))
+        .map_err(Refusal::from)
 }
 
 // What the five calls below answer, and the midpoint after the refused offer and at the end.
@@ -89,15 +79,15 @@ fn day(tape: &mut [Fill; 1]) -> Day {
 // offer is then taken, trades the two orders, and leaves the bytes behind it.
 #[test]
 fn the_book_accepts_before_the_quotes_change(rt: HostRuntime) {
-    let mut tape = [NO_FILL];
+    let mut tape = [Fill::default()];
     let (told, between, after) = day(&mut tape);
     let [bid, refused, short, other, offer] = told;
-    assert_eq!(rt; bid, (Some((0, 0)), None));
-    assert_eq!(rt; refused, (None, quotes_refuse(7)));
+    assert_eq!(rt; bid, Ok((0, 0)));
+    assert_eq!(rt; refused, quotes_refuse(7));
     assert_eq!(rt; between, None);
-    assert_eq!(rt; short, (None, quotes_refuse(13)));
-    assert_eq!(rt; other, (None, quotes_refuse(14)));
-    assert_eq!(rt; offer, (Some((1, 3)), None));
+    assert_eq!(rt; short, quotes_refuse(13));
+    assert_eq!(rt; other, quotes_refuse(14));
+    assert_eq!(rt; offer, Ok((1, 3)));
     assert_eq!(rt; after, Some(245_050));
     assert_eq!(rt; (tape[0].price, tape[0].volume), (245_050, 100));
 }

@@ -1,5 +1,5 @@
 // A day of closing orders under arrival priority, run whole.
-use base::Side;
+use base::{Refusal, Side};
 use book::closed::Unfilled;
 use book::day::{DayRun, Reply, run_day};
 use kinds::closing::{ClosingOrder, Quantity};
@@ -7,16 +7,6 @@ use kinds::priorities::ArrivalPriority;
 use orders::trade::{Fill, Header, Party};
 use rules::call::{Answer, Call};
 use rules::fault::BookFault;
-use std::test::Fail;
-
-const NOBODY: Party = Party { house: 0, folio: 0 };
-
-const NO_FILL: Fill = Fill {
-    price: 0,
-    volume: 0,
-    buyer: NOBODY,
-    seller: NOBODY,
-};
 
 const UNANSWERED: Reply = Err(BookFault::ListTooShort);
 
@@ -42,17 +32,25 @@ fn enter(
     Call::Enter(order(side, house, folio, volume, quantity))
 }
 
-// An answer as three numbers: fills, cancelled volume, refusal.
-fn told(reply: Reply) -> (usize, u32, u32) {
-    match reply {
-        Ok(Answer::Filled(fills)) => (fills, 0, 0),
-        Ok(Answer::Cancelled(volume)) => (0, volume, 0),
-        Err(fault) => (0, 0, fault.refusal().number),
-    }
+// A reply, with the number of its refusal.
+fn numbered(reply: Reply) -> Result<Answer, u32> {
+    reply.map_err(|fault| Refusal::from(fault).number)
 }
 
-fn shown(fill: Fill) -> (u32, u32, u32, u32) {
-    (fill.price, fill.volume, fill.buyer.folio, fill.seller.folio)
+// A fill between two orders whose houses have the same numbers as their folios.
+fn fill(price: u32, volume: u32, buyer: u32, seller: u32) -> Fill {
+    Fill {
+        price,
+        volume,
+        buyer: Party {
+            house: buyer,
+            folio: buyer,
+        },
+        seller: Party {
+            house: seller,
+            folio: seller,
+        },
+    }
 }
 
 // An all-or-none sell of 500 meets no buy of 300, and is filled whole by an all-or-none buy of 500, though a partial
@@ -76,8 +74,8 @@ fn a_closing_day(rt: HostRuntime) {
     let nothing = order(Side::Buy, 0, 0, 0, Quantity::Partial);
     let mut table = [nothing; 4];
     let mut replies = [UNANSWERED; 9];
-    let mut tape = [NO_FILL; 16];
-    let mut list = [Unfilled { folio: 0, left: 0 }; 4];
+    let mut tape = [Fill::default(); 16];
+    let mut list = [Unfilled::default(); 4];
     let DayRun { book, fills } = run_day::<ClosingOrder, ArrivalPriority>(
         &mut table,
         &calls,
@@ -88,23 +86,29 @@ fn a_closing_day(rt: HostRuntime) {
     let listed = closed.unfilled(&mut list);
     let _table = closed.end();
     let [r0, r1, r2, r3, r4, r5, r6, r7, r8] = replies;
-    assert_eq!(rt; told(r0), (0, 0, 0));
-    assert_eq!(rt; told(r1), (0, 0, 0));
-    assert_eq!(rt; told(r2), (0, 0, 0));
-    assert_eq!(rt; told(r3), (1, 0, 0));
-    assert_eq!(rt; told(r4), (1, 0, 0));
-    assert_eq!(rt; told(r5), (0, 0, 2), "the folio is not above the highest");
-    assert_eq!(rt; told(r6), (0, 0, 0));
-    assert_eq!(rt; told(r7), (0, 400, 0));
-    assert_eq!(rt; told(r8), (1, 0, 0));
-    assert_eq!(rt; fills.ok(), Some(3));
+    assert_eq!(rt; numbered(r0), Ok(Answer::Filled(0)));
+    assert_eq!(rt; numbered(r1), Ok(Answer::Filled(0)));
+    assert_eq!(rt; numbered(r2), Ok(Answer::Filled(0)));
+    assert_eq!(rt; numbered(r3), Ok(Answer::Filled(1)));
+    assert_eq!(rt; numbered(r4), Ok(Answer::Filled(1)));
+    assert_eq!(rt; numbered(r5), Err(2), "the folio is not above the highest");
+    assert_eq!(rt; numbered(r6), Ok(Answer::Filled(0)));
+    assert_eq!(rt; numbered(r7), Ok(Answer::Cancelled(400)));
+    assert_eq!(rt; numbered(r8), Ok(Answer::Filled(1)));
+    assert_eq!(rt; fills, Ok(3));
     let [f0, f1, f2, ..] = tape;
-    assert_eq!(rt; shown(f0), (245_050, 100, 1, 3));
-    assert_eq!(rt; shown(f1), (245_050, 500, 4, 2));
-    assert_eq!(rt; shown(f2), (245_050, 20, 7, 7));
+    assert_eq!(rt; f0, fill(245_050, 100, 1, 3));
+    assert_eq!(rt; f1, fill(245_050, 500, 4, 2));
+    assert_eq!(rt; f2, fill(245_050, 20, 7, 7));
     let [first, ..] = list;
-    assert_eq!(rt; listed.ok(), Some(1));
-    assert_eq!(rt; (first.folio, first.left), (1, 200));
+    assert_eq!(rt; listed, Ok(1));
+    assert_eq!(rt;
+        first,
+        Unfilled {
+            folio: 1,
+            left: 200
+        }
+    );
 }
 
 // Of two buys that can trade, the one that arrived first is filled, however large the other is.
@@ -119,7 +123,7 @@ fn arrival_comes_first(rt: HostRuntime) {
     let nothing = order(Side::Buy, 0, 0, 0, Quantity::Partial);
     let mut table = [nothing; 4];
     let mut replies = [UNANSWERED; 4];
-    let mut tape = [NO_FILL; 4];
+    let mut tape = [Fill::default(); 4];
     let DayRun { book, fills } = run_day::<ClosingOrder, ArrivalPriority>(
         &mut table,
         &calls,
@@ -129,19 +133,19 @@ fn arrival_comes_first(rt: HostRuntime) {
     let closed = book.close();
     let _table = closed.end();
     let [f0, f1, ..] = tape;
-    assert_eq!(rt; fills.ok(), Some(2));
-    assert_eq!(rt; shown(f0), (100, 10, 1, 3));
-    assert_eq!(rt; shown(f1), (100, 20, 2, 3));
+    assert_eq!(rt; fills, Ok(2));
+    assert_eq!(rt; f0, fill(100, 10, 1, 3));
+    assert_eq!(rt; f1, fill(100, 20, 2, 3));
 }
 
 // With no place for each answer no call is made.
 #[test]
-fn too_few_replies(rt: HostRuntime) -> Result<(), Fail> {
+fn too_few_replies(rt: HostRuntime) {
     let calls = [Call::Price(Some(100)), Call::Price(None)];
     let nothing = order(Side::Buy, 0, 0, 0, Quantity::Partial);
     let mut table = [nothing; 1];
     let mut replies = [UNANSWERED; 1];
-    let mut tape = [NO_FILL; 1];
+    let mut tape = [Fill::default(); 1];
     let DayRun { book, fills } = run_day::<ClosingOrder, ArrivalPriority>(
         &mut table,
         &calls,
@@ -150,11 +154,5 @@ fn too_few_replies(rt: HostRuntime) -> Result<(), Fail> {
     );
     let closed = book.close();
     let _table = closed.end();
-    match fills {
-        Ok(_) => Err(Fail::new("run")),
-        Err(fault) => {
-            assert_eq!(rt; fault.refusal().number, 12);
-            Ok(())
-        },
-    }
+    assert_eq!(rt; fills.map_err(|fault| Refusal::from(fault).number), Err(12));
 }
