@@ -5,7 +5,7 @@ use dayrun::desk::Desk;
 use dayrun::run::run_lines;
 use lines::fault::LineFault;
 use orders::trade::Fill;
-use session::apply::{LineAnswer, MidpointBook, apply_line};
+use session::apply::{InputLine, LineAnswer, MidpointBook, apply_line};
 use std::io;
 
 // Every line is for the book.
@@ -16,11 +16,10 @@ impl Desk for Crossing {
     fn apply(
         &mut self,
         book: &mut MidpointBook<'_>,
-        line: &[u8],
-        number: u64,
+        line: InputLine<'_>,
         tape: &mut [Fill],
     ) -> Result<LineAnswer, LineFault> {
-        apply_line(book, line, number, tape)
+        apply_line(book, line, tape)
     }
 }
 

@@ -15,7 +15,8 @@ use std::io::{BufWriter, Write};
 // Places of the table and of the tape.
 pub(crate) const PLACES: usize = 512;
 
-// A line for each fill at the tape's front.
+// A line for each fill at the tape's front. As a slice, `&tape[..fills]`, they would want the fact that there are as many,
+// which no desk promises.
 fn write_fills<W: Write + Drop>(
     output: &mut BufWriter<W>,
     tape: &[Fill],
@@ -40,13 +41,13 @@ pub(crate) fn write_answer<W: Write + Drop>(
         }
         Ok(
             LineAnswer::Quoted {
+                before,
                 midpoint,
-                changed,
                 fills,
             },
         ) => {
-            if changed {
-                writeln!(output, "{}", Answer::Midpoint(midpoint))?;
+            if before != midpoint {
+                writeln!(output, "{}", Answer(Ok(midpoint)))?;
             }
             write_fills(output, tape, fills)
         }
@@ -62,11 +63,8 @@ pub(crate) fn write_unfilled<W: Write + Drop>(
     requires { length (resting_orders book.now) ≤ 512 }
 {
     let mut list = [Unfilled { folio: 0, left: 0 }; PLACES];
-    let count = match book.unfilled(&mut list) {
-        Ok(count) => count,
-        Err(_) => unreachable(),
-    };
-    for order in list.iter().take(count) {
+    let count = book.unfilled(&mut list).unwrap();
+    for order in &list[..count] {
         let (folio, left) = (order.folio, order.left);
         writeln!(output, "{}", OutputLine::Left { folio, left })?;
     }

@@ -1,7 +1,5 @@
 -- A message that is accepted, handed on to the book.
-use Rattle.std.proofs.Common.{◌≡◌, ℕ, ◌≤◌, Bool, true, false, cond, leb, List, length, ℤ, Option, Result, refl, subst, inr, arith, Bor}
-use Rattle.std.proofs.lemmas.Bool.{leb-true}
-use Rattle.base.specs.Questions.{first_no}
+use Rattle.std.proofs.Common.{◌≡◌, ℕ, List, length, Option, Result, subst, Bor}
 use Rattle.book.specs.declared.open.OpenBook.{OpenBook}
 use Rattle.book.specs.Called.{Called, FillsAtFront, fills_outcome}
 use Rattle.book.specs.View.{SameTable}
@@ -10,27 +8,16 @@ use Rattle.orders.specs.declared.trade.Fill.{Fill}
 use Rattle.orders.specs.Kind.{Kind}
 use Rattle.orders.specs.Ranking.{Ranking}
 use Rattle.quotes.specs.declared.board.QuoteBoard.{QuoteBoard}
-use Rattle.quotes.specs.declared.ticks.SecurityType.{SecurityType}
 use Rattle.quotes.specs.Board.{Lays, Rows, midpoint}
-use Rattle.quotes.specs.Message.{message_questions}
 use Rattle.rules.specs.declared.call.Call.TheVariants.{Price}
 use Rattle.rules.specs.declared.fault.BookFault.{BookFault}
 use Rattle.feed.specs.declared.fault.QuoteFault.{QuoteFault}
-use Rattle.feed.specs.Feeding.{Feeds, PassedOn, Replaced}
-
-asked_first : (t : Bool) (rest : ℕ) → cond t rest 13 ≡ 0 → t ≡ true
-asked_first true rest e = refl
-asked_first false rest e = absurd (omega (arith, e))
-
--- an accepted message has its 24 bytes
-pub long_enough : (instrument : ℤ) (security : SecurityType) (bytes : List ℕ) → first_no (message_questions instrument security bytes) ≡ 0 → 24 ≤ length bytes
-long_enough instrument security bytes accepted = leb-true 24 (length bytes) (asked_first (leb 24 (length bytes)) _ accepted)
+use Rattle.feed.specs.Feeding.{HandedOn, PassedOn, Replaced}
 
 -- what the price call ensures is what the feed call ensures of the book and the tape
-pub handed_on : {O P : Type 0} (kind : Kind O) (rank : Ranking) (bytes : List ℕ) (board board_after : QuoteBoard) (book book_after : OpenBook O P) (tape tape_after : List Fill) (r : Result (ℕ × Bor (List ℕ)) QuoteFault) (copy : Rows) (price : Option ℕ) (reply : Result ℕ BookFault) → Lays board.instrument board.quotes.security board.quotes.rows bytes copy → price ≡ midpoint copy → Called kind rank book (Price price) (length tape) (fills_outcome reply tape_after) book_after → FillsAtFront reply tape tape_after → SameTable book book_after → PassedOn bytes reply r → Replaced reply copy board board_after → Feeds kind rank bytes board board_after book book_after tape tape_after r
-handed_on kind rank bytes board board_after book book_after tape tape_after r copy price reply laid is called taped same answered replaced =
+pub handed_on : {O P : Type 0} {kind : Kind O} {rank : Ranking} {bytes : List ℕ} {board board_after : QuoteBoard} {book book_after : OpenBook O P} {tape tape_after : List Fill} {r : Result (ℕ × Bor (List ℕ)) QuoteFault} (copy : Rows) (price : Option ℕ) (reply : Result ℕ BookFault) → Lays board.instrument board.quotes.security board.quotes.rows bytes copy → price ≡ midpoint copy → Called kind rank book (Price price) (length tape) (fills_outcome reply tape_after) book_after → FillsAtFront reply tape tape_after → SameTable book book_after → PassedOn bytes reply r → Replaced reply copy board board_after → HandedOn kind rank bytes board board_after book book_after tape tape_after r
+handed_on {kind} {rank} {book} {book_after} {tape} {tape_after} copy price reply laid is called taped same answered replaced =
     let made = subst (λ (q : Option ℕ). Called kind rank book (Price q) (length tape) (fills_outcome reply tape_after) book_after) is called in
-    inr (
     record {
       copy = copy;
       laid = laid;
@@ -42,4 +29,3 @@ handed_on kind rank bytes board board_after book book_after tape tape_after r co
       answered = answered;
       replaced = replaced;
     }
-    )

@@ -9,7 +9,7 @@ use feedlines::apply::apply_feed_line;
 use lines::fault::LineFault;
 use orders::trade::Fill;
 use quotes::board::QuoteBoard;
-use session::apply::{LineAnswer, MidpointBook};
+use session::apply::{InputLine, LineAnswer, MidpointBook};
 use std::process::ExitCode;
 
 // Orders are for the book, and quotes for the board and the book.
@@ -22,11 +22,10 @@ impl Desk for Feeding {
     fn apply(
         &mut self,
         book: &mut MidpointBook<'_>,
-        line: &[u8],
-        number: u64,
+        line: InputLine<'_>,
         tape: &mut [Fill],
     ) -> Result<LineAnswer, LineFault> {
-        apply_feed_line(&mut self.board, book, line, number, tape)
+        apply_feed_line(&mut self.board, book, line, tape)
     }
 }
 

@@ -1,2 +1,1 @@
-mod Quoted
 mod Spelled

@@ -1,5 +1,5 @@
 -- What a line does to the quotes and to the book.
-use Rattle.std.specs.Prelude.{◌≡◌, ℕ, Bool, true, false, not, ◌⊎◌, List, Some, None, Ok, Err, Option, Result, ◌==◌}
+use Rattle.std.specs.Prelude.{◌≡◌, ℕ, ◌⊎◌, List, Ok, Err, Option, Result}
 use Rattle.std.specs.Borrow.{Bor}
 use Rattle.feed.specs.declared.fault.QuoteFault.{QuoteFault}
 use Rattle.feed.specs.Feeding.{Feeds}
@@ -17,16 +17,10 @@ use Rattle.session.specs.declared.apply.LineAnswer.TheVariants.{Quoted}
 use Rattle.session.specs.Applied.{Makes, MidpointBook, no_form}
 use Rattle.feedlines.specs.Lines.{WritesCall, WritesMessage}
 
-abbrev pub differs : Option ℕ → Option ℕ → Bool
-differs None None = false
-differs None (Some b) = true
-differs (Some a) None = true
-differs (Some a) (Some b) = not (a == b)
-
--- the answer of a message's line, by the midpoints before and after it; a fault of the quotes is passed on whole, at the
+-- the answer of a message's line tells the midpoints before and after it; a fault of the quotes is passed on whole, at the
 -- line's number
 abbrev pub quote_reply : ℕ → Option ℕ → Option ℕ → Result (ℕ × Bor (List ℕ)) QuoteFault → Result LineAnswer LineFault
-quote_reply number before after (Ok a) = Ok (Quoted after (differs before after) a.0)
+quote_reply number before after (Ok a) = Ok (Quoted before after a.0)
 quote_reply number before after (Err fault) = Err (record { line = number; reason = Quotes fault })
 
 -- the message was fed, and the line's answer is that of the feed call

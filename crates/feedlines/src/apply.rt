@@ -1,49 +1,33 @@
 // One line of a day with quotes applied to the quotes and the book.
 ghost use Rattle.std.specs.Prelude.{◌≡◌};
-ghost use Rattle.feedlines.specs.Applied.{FedLine, FeedApplies, differs};
+ghost use Rattle.feedlines.specs.Applied.{FedLine, FeedApplies};
 
 use crate::reading::{FeedLine, read_feed_line};
 use feed::call::feed;
 use lines::fault::{LineFault, LineReason};
 use orders::trade::Fill;
 use quotes::board::QuoteBoard;
-use session::apply::{LineAnswer, MidpointBook, make_call};
+use session::apply::{InputLine, LineAnswer, MidpointBook, make_call};
 
-fn differs(a: Option<u32>, b: Option<u32>) -> bool
-    ensures { result ≡ differs a b }
-{
-    match (a, b) {
-        (Some(a), Some(b)) => a != b,
-        (None, None) => false,
-        _ => true,
-    }
-}
-
-// Feeds the message to the quotes and the book.
+// Feeds the message of a line to the quotes and the book.
 fn apply_message(
     board: &mut QuoteBoard,
     book: &mut MidpointBook<'_>,
     message: &[u8],
-    number: u64,
+    line: InputLine<'_>,
     tape: &mut [Fill],
 ) -> Result<LineAnswer, LineFault>
-    ensures { FedLine message.now number board.old board.new book.old book.new tape.old tape.new result }
+    ensures { FedLine message.now line.entry.number board.old board.new book.old book.new tape.old tape.new result }
 {
     let before = board.midpoint();
-    match feed(board, book, message, tape) {
-        Ok((fills, _)) => {
-            let midpoint = board.midpoint();
-            Ok(LineAnswer::Quoted {
-                midpoint,
-                changed: differs(before, midpoint),
-                fills,
-            })
-        }
-        Err(fault) => Err(LineFault {
-            line: number,
-            reason: LineReason::Quotes(fault),
-        }),
-    }
+    let fed = feed(board, book, message, tape);
+    let (fills, _) = fed.map_err(|fault| LineReason::Quotes(fault).at(line.number))?;
+    let midpoint = board.midpoint();
+    Ok(LineAnswer::Quoted {
+        before,
+        midpoint,
+        fills,
+    })
 }
 
 // Makes the call that the line writes, or feeds its message. A line that is none of the forms, or whose call or
@@ -51,18 +35,13 @@ fn apply_message(
 pub fn apply_feed_line(
     board: &mut QuoteBoard,
     book: &mut MidpointBook<'_>,
-    line: &[u8],
-    number: u64,
+    line: InputLine<'_>,
     tape: &mut [Fill],
 ) -> Result<LineAnswer, LineFault>
-    ensures { FeedApplies line.now number board.old board.new book.old book.new tape.old tape.new result }
+    ensures { FeedApplies line.entry.bytes.now line.entry.number board.old board.new book.old book.new tape.old tape.new result }
 {
-    match read_feed_line(line) {
-        Some(FeedLine::Order(call)) => make_call(book, call, number, tape),
-        Some(FeedLine::Quote(message)) => apply_message(board, book, &message, number, tape),
-        None => Err(LineFault {
-            line: number,
-            reason: LineReason::NoForm,
-        }),
+    match read_feed_line(line.bytes).ok_or(LineReason::NoForm.at(line.number))? {
+        FeedLine::Order(call) => make_call(book, call, line, tape),
+        FeedLine::Quote(message) => apply_message(board, book, &message, line, tape),
     }
 }

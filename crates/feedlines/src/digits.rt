@@ -2,10 +2,10 @@
 ghost use Rattle.std.specs.Prelude.{◌≡◌, ℕ, ◌<◌, List, length, IfSome, MatchOption};
 ghost use Rattle.feedlines.specs.Digits.{Spells, byte_of, digit_value};
 
-// The bytes of a message.
-pub(crate) const MESSAGE: usize = 24;
+use quotes::message::MESSAGE;
 
 // The value of a digit, in either case.
+// Kept by ranges, not by `to_digit` or the crate `hex`: an edit that must be refused counts the letters from nine here.
 fn digit_value(digit: u8) -> Option<u8>
     ensures value { result ≡ digit_value digit }
     ensures small { IfSome result (λ n. n < 16) }
@@ -22,25 +22,19 @@ fn digit_value(digit: u8) -> Option<u8>
 fn byte_of(high: u8, low: u8) -> Option<u8>
     ensures { result ≡ byte_of high low }
 {
-    match (digit_value(high), digit_value(low)) {
-        (Some(high), Some(low)) => Some(high * 16 + low),
-        _ => None,
-    }
+    Some(digit_value(high)? * 16 + digit_value(low)?)
 }
 
 // The message that 48 digits write; none where they are not as many, or one is no digit.
 pub(crate) fn read_digits(digits: &[u8]) -> Option<[u8; MESSAGE]>
     ensures { MatchOption result ((bytes : List ℕ) → Spells digits.now bytes → ⊥) (λ bytes. Spells digits.now bytes) }
 {
-    if digits.len() != 2 * MESSAGE {
-        return None;
-    }
     let mut message = [0; MESSAGE];
-    for place in 0..MESSAGE {
-        let Some(byte) = byte_of(digits[2 * place], digits[2 * place + 1]) else {
-            return None;
-        };
-        message[place] = byte;
+    let mut rest = digits;
+    for byte in &mut message {
+        let ([high, low], behind) = rest.split_first_chunk::<2>()?;
+        *byte = byte_of(*high, *low)?;
+        rest = behind;
     }
-    Some(message)
+    rest.is_empty().then_some(message)
 }

@@ -2,12 +2,14 @@
 ghost use Rattle.std.specs.Prelude.{◌++◌, codes};
 ghost use Rattle.feedlines.specs.Lines.{ReadsAs};
 
-use crate::digits::{MESSAGE, read_digits};
+use crate::digits::read_digits;
 use kinds::midpoint::MidpointOrder;
 use lines::reading::read_line;
+use quotes::message::MESSAGE;
 use rules::call::Call;
 
-#[derive(Clone, Copy)]
+// An enum of its own and no `Result`: both are lines that were read.
+#[derive(Clone, Copy, PartialEq, Eq, Debug)]
 pub enum FeedLine {
     // An entry, a cancel or a cross.
     Order(Call<MidpointOrder>),
@@ -19,28 +21,17 @@ pub enum FeedLine {
 fn read_quote(fields: &[u8]) -> Option<FeedLine>
     ensures { ReadsAs (codes "Q" ++ fields.now) result }
 {
-    let [b' ', digits @ ..] = fields else {
-        return None;
-    };
-    match read_digits(digits) {
-        Some(message) => Some(FeedLine::Quote(message)),
-        None => None,
-    }
+    read_digits(fields.strip_prefix(b" ")?).map(FeedLine::Quote)
 }
 
 // What a line writes; none where it is none of the forms. A price is none of them.
 pub fn read_feed_line(line: &[u8]) -> Option<FeedLine>
     ensures { ReadsAs line.now result }
 {
-    let [letter, fields @ ..] = line else {
-        return None;
-    };
+    let (letter, fields) = line.split_first()?;
     match *letter as char {
         'Q' => read_quote(fields),
         'P' => None,
-        _ => match read_line(line) {
-            Some(call) => Some(FeedLine::Order(call)),
-            None => None,
-        },
+        _ => read_line(line).map(FeedLine::Order),
     }
 }

@@ -1,4 +1,3 @@
 pub mod Digits
-pub mod Forms
 pub mod Readings
 pub mod Unique

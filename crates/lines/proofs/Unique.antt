@@ -1,5 +1,5 @@
 -- No two readable calls have the same line, so a line is read as the one call that it writes.
-use Rattle.std.proofs.Common.{◌≡◌, ℕ, ◌^◌, ◌<◌, List, [], ◌∷◌, ◌++◌, length, get_or, drop, Some, None, decimal, sym, refl, ap, ◌∙◌, append-nil, arith}
+use Rattle.std.proofs.Common.{◌≡◌, ℕ, suc, ◌^◌, ◌<◌, List, [], ◌∷◌, ◌++◌, length, get_or, drop, Some, None, decimal, sym, refl, ap, ◌∙◌, append-nil, arith}
 use Rattle.std.proofs.lemmas.Fmt.{digits_decimal, decimal_injective}
 use Rattle.base.specs.declared.Side.{Side}
 use Rattle.base.specs.declared.Side.TheVariants.{Buy, Sell}
@@ -10,7 +10,6 @@ use Rattle.kinds.specs.declared.midpoint.MidpointOrder.{MidpointOrder}
 use Rattle.lines.specs.Lines.{side_word, order_numbers, numbers_of, line_of, Readable}
 use Rattle.lines.specs.Numbers.{numbers, Small}
 use Rattle.lines.proofs.Digits.{own}
-use Rattle.lines.proofs.Forms.{after_side, first_apart}
 use Rattle.lines.proofs.Readings.{same_number, numbers_stop}
 
 same_numbers : (ns ms : List ℕ) → Small ns → Small ms → numbers ns ≡ numbers ms → ns ≡ ms
@@ -18,18 +17,22 @@ same_numbers [] [] p q e = refl
 same_numbers [] (m ∷ ms) p q e = let long = ap length e in absurd (omega arith)
 same_numbers (n ∷ ns) [] p q e = let long = ap length e in absurd (omega arith)
 same_numbers (n ∷ ns) (m ∷ ms) p q e =
-    let fits = p.0 in
+    let fits = p 0 0 (omega arith) in
+    let same_fits = q 0 0 (omega arith) in
     let tails : decimal n ++ numbers ns ≡ decimal m ++ numbers ms = cc in
-    let parts = same_number (decimal n) m (numbers ns) (numbers ms) (digits_decimal own n (omega arith)) q.0 (numbers_stop ns) (numbers_stop ms) tails in
-    let heads = decimal_injective n m (omega arith) (omega (arith, q.0)) parts.0 in
-    let rest = same_numbers ns ms p.1 q.1 parts.1 in
+    let parts = same_number (decimal n) m (numbers ns) (numbers ms) (digits_decimal own n (omega arith)) same_fits (numbers_stop ns) (numbers_stop ms) tails in
+    let heads = decimal_injective n m (omega arith) (omega arith) parts.0 in
+    let rest = same_numbers ns ms (λ k d h. p (suc k) d (omega arith)) (λ k d h. q (suc k) d (omega arith)) parts.1 in
     λ i. heads i ∷ rest i
+
+after_side : (side : Side) (xs : List ℕ) → drop 1 (side_word side ++ xs) ≡ xs
+after_side Buy xs = refl
+after_side Sell xs = refl
 
 same_side : (s t : Side) (xs ys : List ℕ) → side_word s ++ xs ≡ side_word t ++ ys → s ≡ t
 same_side Buy Buy xs ys e = refl
 same_side Sell Sell xs ys e = refl
-same_side Buy Sell xs ys e = absurd (first_apart 67 86 xs ys (omega arith) e)
-same_side Sell Buy xs ys e = absurd (first_apart 86 67 xs ys (omega arith) e)
+same_side s t xs ys e = let letters = ap (λ (l : List ℕ). get_or l 0 0) e in absurd (omega arith)
 
 -- a dash is no number
 dash_apart : (n : ℕ) → n < 2 ^ 32 → 45 ∷ [] ≡ decimal n ++ [] → ⊥
@@ -59,35 +62,32 @@ same_order o p a b e =
     let left : o.header.left ≡ p.header.left = a.1 ∙ ap (λ (l : List ℕ). get_or l 2 0) ns ∙ sym b.1 in
     λ i. order_of (sides i) (ns i) (left i)
 
+abbrev letter_of : Call MidpointOrder → ℕ
+letter_of (Enter o) = 69
+letter_of (Cancel p) = 75
+letter_of (Price price) = 80
+letter_of (Cross p volume) = 88
+
+begins : (c : Call MidpointOrder) → get_or (line_of c) 0 0 ≡ letter_of c
+begins (Price None) = refl
+begins (Price (Some price)) = refl
+begins c = refl
+
 pub one_call : (c d : Call MidpointOrder) → Readable c → Readable d → line_of c ≡ line_of d → c ≡ d
 one_call (Enter o) (Enter p) a b e = ap Enter (same_order o p a b e)
-one_call (Enter o) (Cancel p) a b e = absurd (first_apart 69 75 _ _ (omega arith) e)
-one_call (Enter o) (Price None) a b e = absurd (first_apart 69 80 _ _ (omega arith) e)
-one_call (Enter o) (Price (Some q)) a b e = absurd (first_apart 69 80 _ _ (omega arith) e)
-one_call (Enter o) (Cross p v) a b e = absurd (first_apart 69 88 _ _ (omega arith) e)
-one_call (Cancel o) (Enter p) a b e = absurd (first_apart 75 69 _ _ (omega arith) e)
 one_call (Cancel o) (Cancel p) a b e =
     let ns = same_numbers (numbers_of (Cancel o)) (numbers_of (Cancel p)) a.0 b.0 (ap (drop 1) e) in
     λ i. Cancel (party_of (ns i))
-one_call (Cancel o) (Price None) a b e = absurd (first_apart 75 80 _ _ (omega arith) e)
-one_call (Cancel o) (Price (Some q)) a b e = absurd (first_apart 75 80 _ _ (omega arith) e)
-one_call (Cancel o) (Cross p v) a b e = absurd (first_apart 75 88 _ _ (omega arith) e)
-one_call (Price None) (Enter p) a b e = absurd (first_apart 80 69 _ _ (omega arith) e)
-one_call (Price None) (Cancel p) a b e = absurd (first_apart 80 75 _ _ (omega arith) e)
 one_call (Price None) (Price None) a b e = refl
-one_call (Price None) (Price (Some q)) a b e = absurd (dash_apart q b.0.0 (ap (drop 2) e))
-one_call (Price None) (Cross p v) a b e = absurd (first_apart 80 88 _ _ (omega arith) e)
-one_call (Price (Some q)) (Enter p) a b e = absurd (first_apart 80 69 _ _ (omega arith) e)
-one_call (Price (Some q)) (Cancel p) a b e = absurd (first_apart 80 75 _ _ (omega arith) e)
-one_call (Price (Some q)) (Price None) a b e = absurd (dash_apart q a.0.0 (sym (ap (drop 2) e)))
+one_call (Price None) (Price (Some q)) a b e = absurd (dash_apart q (b.0 0 0 (omega arith)) (ap (drop 2) e))
+one_call (Price (Some q)) (Price None) a b e = absurd (dash_apart q (a.0 0 0 (omega arith)) (sym (ap (drop 2) e)))
 one_call (Price (Some q)) (Price (Some r)) a b e =
     let ns = same_numbers (numbers_of (Price (Some q))) (numbers_of (Price (Some r))) a.0 b.0 (ap (drop 1) e) in
     λ i. Price (Some (get_or (ns i) 0 0))
-one_call (Price (Some q)) (Cross p v) a b e = absurd (first_apart 80 88 _ _ (omega arith) e)
-one_call (Cross o u) (Enter p) a b e = absurd (first_apart 88 69 _ _ (omega arith) e)
-one_call (Cross o u) (Cancel p) a b e = absurd (first_apart 88 75 _ _ (omega arith) e)
-one_call (Cross o u) (Price None) a b e = absurd (first_apart 88 80 _ _ (omega arith) e)
-one_call (Cross o u) (Price (Some q)) a b e = absurd (first_apart 88 80 _ _ (omega arith) e)
 one_call (Cross o u) (Cross p v) a b e =
     let ns = same_numbers (numbers_of (Cross o u)) (numbers_of (Cross p v)) a.0 b.0 (ap (drop 1) e) in
     λ i. Cross (party_of (ns i)) (get_or (ns i) 2 0)
+-- other calls have other first letters
+one_call c d a b e =
+    let letters = sym (begins c) ∙ ap (λ (l : List ℕ). get_or l 0 0) e ∙ begins d in
+    absurd (omega arith)

@@ -17,3 +17,7 @@ reason_number (Quotes fault) = (quote_refusal fault).number
 -- the layer is the line's, and the place is the line's number
 abbrev pub refusal : LineFault → Refusal
 refusal f = record { number = reason_number f.reason; layer = Line; place = f.line }
+
+-- the fault of the line with this number
+abbrev pub fault_at : ℕ → LineReason → LineFault
+fault_at number reason = record { line = number; reason = reason }

@@ -1,5 +1,5 @@
 -- Numbers as a line has them.
-use Rattle.std.specs.Prelude.{◌≡◌, ℕ, ◌^◌, ◌<◌, List, [], ◌∷◌, ◌++◌, length, codes, decimal, slice_index}
+use Rattle.std.specs.Prelude.{◌≡◌, ℕ, ◌^◌, ◌<◌, List, ◌++◌, All, flat_map, length, codes, decimal, slice_index}
 use Rattle.std.specs.Int.{IsInRange}
 
 -- a number in decimal, after one space
@@ -8,13 +8,11 @@ spaced n = codes " " ++ decimal n
 
 -- one number after the other
 abbrev pub numbers : List ℕ → List ℕ
-numbers [] = []
-numbers (n ∷ ns) = spaced n ++ numbers ns
+numbers ns = flat_map spaced ns
 
 -- every number fits 32 bits
 abbrev pub Small : List ℕ → Type 0
-Small [] = Unit {0}
-Small (n ∷ ns) = (n < 2 ^ 32) × Small ns
+Small ns = All (λ n. n < 2 ^ 32) ns
 
 -- every byte is one of 0 to 9
 abbrev pub AllDigits : List ℕ → Type 0

@@ -1,14 +1,13 @@
 // Why a line is refused.
 ghost use Rattle.std.specs.Prelude.{◌≡◌};
-ghost use Rattle.lines.specs.Faults.{refusal};
+ghost use Rattle.lines.specs.Faults.{refusal, fault_at};
+ghost use Rattle.lines.specs.declared.fault.LineReason.TheVariants.{Book, Quotes};
 
 use base::{Layer, Refusal};
 use feed::fault::QuoteFault;
 use rules::fault::BookFault;
 
-const NO_FORM: u32 = 27;
-
-#[derive(Clone, Copy)]
+#[derive(Clone, Copy, PartialEq, Eq, Debug)]
 pub enum LineReason {
     // The line is none of the forms.
     NoForm,
@@ -18,27 +17,52 @@ pub enum LineReason {
     Quotes(QuoteFault),
 }
 
-#[derive(Clone, Copy)]
+impl From<BookFault> for LineReason {
+    ghost from_gives = { λ fault reason. reason ≡ Book fault };
+
+    fn from(fault: BookFault) -> LineReason {
+        LineReason::Book(fault)
+    }
+}
+
+impl From<QuoteFault> for LineReason {
+    ghost from_gives = { λ fault reason. reason ≡ Quotes fault };
+
+    fn from(fault: QuoteFault) -> LineReason {
+        LineReason::Quotes(fault)
+    }
+}
+
+impl LineReason {
+    // The fault of the line with this number.
+    pub fn at(self, line: u64) -> LineFault
+        ensures { result ≡ fault_at line self }
+    {
+        LineFault { line, reason: self }
+    }
+}
+
+#[derive(Clone, Copy, PartialEq, Eq, Debug)]
 pub struct LineFault {
     // The line's number in its input.
     pub line: u64,
     pub reason: LineReason,
 }
 
-impl LineFault {
-    // The number of the book or of the quotes is passed on; the place is the line's number.
-    pub fn refusal(self) -> Refusal
-        ensures { result ≡ refusal self }
-    {
-        let number = match self.reason {
-            LineReason::NoForm => NO_FORM,
-            LineReason::Book(fault) => fault.refusal().number,
-            LineReason::Quotes(fault) => fault.refusal().number,
+// The number of the book or of the quotes is passed on; the place is the line's number.
+impl From<LineFault> for Refusal {
+    ghost from_gives = { λ fault told. told ≡ refusal fault };
+
+    fn from(fault: LineFault) -> Refusal {
+        let number = match fault.reason {
+            LineReason::NoForm => 27,
+            LineReason::Book(inside) => Refusal::from(inside).number,
+            LineReason::Quotes(inside) => Refusal::from(inside).number,
         };
         Refusal {
             number,
             layer: Layer::Line,
-            place: self.line,
+            place: fault.line,
         }
     }
 }

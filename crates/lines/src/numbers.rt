@@ -11,12 +11,7 @@ fn digits_at_front(bytes: &[u8]) -> usize
     ensures before { (k : ℕ) → k < result → IsInRange 48 57 (slice_index bytes.now k) }
     ensures stops { result < length bytes.now → IsInRange 48 57 (slice_index bytes.now result) → ⊥ }
 {
-    for (i, b) in bytes.iter().enumerate() {
-        if !b.is_ascii_digit() {
-            return i;
-        }
-    }
-    bytes.len()
+    bytes.iter().take_while(|b| b.is_ascii_digit()).count()
 }
 
 // The digits at the front, as many as there are, and the bytes behind them.
@@ -33,30 +28,19 @@ fn decimal_of(digits: &[u8]) -> Option<u32>
     requires { AllDigits digits.now }
     ensures { MatchOption result ((n : ℕ) → n < 2 ^ 32 → digits.now ≢ decimal n) (λ n. digits.now ≡ decimal n) }
 {
-    if digits.len() > 1 && digits[0] == b'0' {
+    if let [b'0', _, ..] = digits {
         return None;
     }
-    let Ok(text) = str::from_utf8(digits) else {
-        return None;
-    };
-    match text.parse() {
-        Ok(n) => Some(n),
-        Err(_) => None,
-    }
+    str::from_utf8(digits).ok()?.parse().ok()
 }
 
 // The number behind one space at the front, and what stands behind all its digits.
 fn read_number(bytes: &[u8]) -> Option<(u32, &[u8])>
     ensures { MatchOption result ((n : ℕ) (rest : List ℕ) → n < 2 ^ 32 → NoDigitFirst rest → bytes.now ≢ spaced n ++ rest) (λ p. (bytes.now ≡ spaced p.0 ++ p.1.now) × NoDigitFirst p.1.now) }
 {
-    let [b' ', behind @ ..] = bytes else {
-        return None;
-    };
-    let (digits, rest) = split_digits(behind);
-    match decimal_of(digits) {
-        Some(n) => Some((n, rest)),
-        None => None,
-    }
+    let (digits, rest) = split_digits(bytes.strip_prefix(b" ")?);
+    let n = decimal_of(digits)?;
+    Some((n, rest))
 }
 
 // The numbers of the whole text, each behind one space; none unless there are just `N`.
@@ -66,11 +50,7 @@ pub(crate) fn read_numbers<const N: usize>(bytes: &[u8]) -> Option<[u32; N]>
     let mut read = [0; N];
     let mut rest = bytes;
     for place in &mut read {
-        let Some((n, behind)) = read_number(rest) else {
-            return None;
-        };
-        *place = n;
-        rest = behind;
+        (*place, rest) = read_number(rest)?;
     }
-    if rest.is_empty() { Some(read) } else { None }
+    rest.is_empty().then_some(read)
 }

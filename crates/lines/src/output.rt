@@ -4,10 +4,10 @@ ghost use Rattle.lines.specs.Output.{line_text};
 
 use crate::fault::LineFault;
 use base::Refusal;
-use orders::trade::Fill;
+use orders::trade::{Fill, Party};
 use std::fmt;
 
-#[derive(Clone, Copy)]
+#[derive(Clone, Copy, PartialEq, Eq, Debug)]
 pub enum OutputLine {
     Fill(Fill),
     // A cancelled order, and the volume that it had left.
@@ -26,11 +26,20 @@ impl fmt::Display for OutputLine {
 
     fn fmt<W: fmt::Write>(&self, f: &mut fmt::Formatter<W>) -> fmt::Result {
         match *self {
-            OutputLine::Fill(fill) => {
-                let (price, volume) = (fill.price, fill.volume);
-                let (buyer, seller) = (fill.buyer, fill.seller);
-                let (buy_folio, buy_house) = (buyer.folio, buyer.house);
-                let (sell_folio, sell_house) = (seller.folio, seller.house);
+            OutputLine::Fill(
+                Fill {
+                    price,
+                    volume,
+                    buyer: Party {
+                        house: buy_house,
+                        folio: buy_folio,
+                    },
+                    seller: Party {
+                        house: sell_house,
+                        folio: sell_folio,
+                    },
+                },
+            ) => {
                 write!(
                     f,
                     "F {price} {volume} {buy_folio} {sell_folio} {buy_house} {sell_house}"
@@ -38,13 +47,10 @@ impl fmt::Display for OutputLine {
             }
             OutputLine::Cancel { folio, volume } => write!(f, "K {folio} {volume}"),
             OutputLine::Refused(fault) => {
-                let number = fault.refusal().number;
+                let number = Refusal::from(fault).number;
                 write!(f, "R {number}")
             }
-            OutputLine::RefusedAt(refusal) => {
-                let (number, place) = (refusal.number, refusal.place);
-                write!(f, "R {number} {place}")
-            }
+            OutputLine::RefusedAt(Refusal { number, place, .. }) => write!(f, "R {number} {place}"),
             OutputLine::Left { folio, left } => write!(f, "L {folio} {left}"),
             OutputLine::End(n) => write!(f, "end {n}"),
         }

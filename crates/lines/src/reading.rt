@@ -5,7 +5,7 @@ ghost use Rattle.std.specs.Prelude.{◌++◌, codes};
 ghost use Rattle.lines.specs.Lines.{ReadsAs};
 
 use crate::numbers::read_numbers;
-use base::side_of;
+use base::Side;
 use kinds::midpoint::MidpointOrder;
 use orders::trade::{Header, Party};
 use rules::call::Call;
@@ -14,16 +14,9 @@ use rules::call::Call;
 fn read_enter(fields: &[u8]) -> Option<Call<MidpointOrder>>
     ensures { ReadsAs (codes "E" ++ fields.now) result }
 {
-    let [b' ', letter, rest @ ..] = fields else {
-        return None;
-    };
-    let Some(side) = side_of(*letter) else {
-        return None;
-    };
-    let Some(numbers) = read_numbers::<5>(rest) else {
-        return None;
-    };
-    let [house, folio, volume, protection, minimum] = numbers;
+    let (letter, rest) = fields.strip_prefix(b" ")?.split_first()?;
+    let side = Side::try_from(*letter).ok()?;
+    let [house, folio, volume, protection, minimum] = read_numbers::<5>(rest)?;
     Some(Call::Enter(MidpointOrder {
         header: Header {
             side,
@@ -36,14 +29,11 @@ fn read_enter(fields: &[u8]) -> Option<Call<MidpointOrder>>
     }))
 }
 
-// What stands behind `K`.
+// What stands behind `K`. It and the next two are no twins: what they share is `read_numbers`, generic in how many there are.
 fn read_cancel(fields: &[u8]) -> Option<Call<MidpointOrder>>
     ensures { ReadsAs (codes "K" ++ fields.now) result }
 {
-    let Some(numbers) = read_numbers::<2>(fields) else {
-        return None;
-    };
-    let [house, folio] = numbers;
+    let [house, folio] = read_numbers::<2>(fields)?;
     Some(Call::Cancel(Party { house, folio }))
 }
 
@@ -51,10 +41,7 @@ fn read_cancel(fields: &[u8]) -> Option<Call<MidpointOrder>>
 fn read_cross(fields: &[u8]) -> Option<Call<MidpointOrder>>
     ensures { ReadsAs (codes "X" ++ fields.now) result }
 {
-    let Some(numbers) = read_numbers::<3>(fields) else {
-        return None;
-    };
-    let [house, folio, volume] = numbers;
+    let [house, folio, volume] = read_numbers::<3>(fields)?;
     Some(Call::Cross {
         party: Party { house, folio },
         volume,
@@ -68,10 +55,7 @@ fn read_price(fields: &[u8]) -> Option<Call<MidpointOrder>>
     if let [b' ', b'-'] = fields {
         return Some(Call::Price(None));
     }
-    let Some(numbers) = read_numbers::<1>(fields) else {
-        return None;
-    };
-    let [price] = numbers;
+    let [price] = read_numbers::<1>(fields)?;
     Some(Call::Price(Some(price)))
 }
 
@@ -79,9 +63,7 @@ fn read_price(fields: &[u8]) -> Option<Call<MidpointOrder>>
 pub fn read_line(line: &[u8]) -> Option<Call<MidpointOrder>>
     ensures { ReadsAs line.now result }
 {
-    let [letter, fields @ ..] = line else {
-        return None;
-    };
+    let (letter, fields) = line.split_first()?;
     match *letter as char {
         'E' => read_enter(fields),
         'K' => read_cancel(fields),

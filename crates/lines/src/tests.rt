@@ -3,65 +3,65 @@ use crate::fault::{LineFault, LineReason};
 use crate::output::OutputLine;
 use crate::reading::read_line;
 use base::{Layer, Refusal, Side};
-use orders::trade::{Fill, Party};
+use feed::fault::QuoteFault;
+use kinds::midpoint::MidpointOrder;
+use orders::trade::{Fill, Header, Party};
+use quotes::fault::MessageFault;
 use rules::call::Call;
 use rules::fault::BookFault;
 use std::test::Fail;
 
-// A call as the checks compare it: its side, if any, and the numbers of its line.
-#[derive(Clone, Copy, PartialEq, Debug)]
-enum Seen {
-    Enter(Side, [u32; 5]),
-    Cancel([u32; 2]),
-    Price(Option<u32>),
-    Cross([u32; 3]),
-    NoForm,
+// An entry, by its side and the numbers of its line.
+fn entry(side: Side, numbers: [u32; 5]) -> Option<Call<MidpointOrder>> {
+    let [house, folio, volume, protection, minimum] = numbers;
+    Some(Call::Enter(MidpointOrder {
+        header: Header {
+            side,
+            party: Party { house, folio },
+            entered: volume,
+            left: volume,
+        },
+        protection,
+        minimum,
+    }))
 }
 
-fn read(line: &[u8]) -> Seen {
-    match read_line(line) {
-        Some(Call::Enter(order)) => {
-            let header = order.header;
-            let party = header.party;
-            Seen::Enter(
-                header.side,
-                [
-                    party.house,
-                    party.folio,
-                    header.left,
-                    order.protection,
-                    order.minimum,
-                ],
-            )
-        }
-        Some(Call::Cancel(party)) => Seen::Cancel([party.house, party.folio]),
-        Some(Call::Price(price)) => Seen::Price(price),
-        Some(Call::Cross { party, volume }) => Seen::Cross([party.house, party.folio, volume]),
-        None => Seen::NoForm,
-    }
+fn cancel(house: u32, folio: u32) -> Option<Call<MidpointOrder>> {
+    Some(Call::Cancel(Party { house, folio }))
+}
+
+fn price(price: Option<u32>) -> Option<Call<MidpointOrder>> {
+    Some(Call::Price(price))
 }
 
 #[test]
 fn reads_each_form(rt: HostRuntime) {
     assert_eq!(rt;
-        read(b"E C 7 12 900 250000 500"),
-        Seen::Enter(Side::Buy, [7, 12, 900, 250_000, 500])
+        read_line(b"E C 7 12 900 250000 500"),
+        entry(Side::Buy, [7, 12, 900, 250_000, 500])
     );
     assert_eq!(rt;
-        read(b"E V 7 13 900 250000 0"),
-        Seen::Enter(Side::Sell, [7, 13, 900, 250_000, 0])
+        read_line(b"E V 7 13 900 250000 0"),
+        entry(Side::Sell, [7, 13, 900, 250_000, 0])
     );
-    assert_eq!(rt; read(b"K 7 12"), Seen::Cancel([7, 12]));
-    assert_eq!(rt; read(b"X 7 12 900"), Seen::Cross([7, 12, 900]));
-    assert_eq!(rt; read(b"P 250000"), Seen::Price(Some(250_000)));
-    assert_eq!(rt; read(b"P 0"), Seen::Price(Some(0)));
-    assert_eq!(rt; read(b"P -"), Seen::Price(None));
+    assert_eq!(rt; read_line(b"K 7 12"), cancel(7, 12));
+    let cross = Call::Cross {
+        party: Party {
+            house: 7,
+            folio: 12,
+        },
+        volume: 900,
+    };
+    assert_eq!(rt; read_line(b"X 7 12 900"), Some(cross));
+    assert_eq!(rt; read_line(b"P 250000"), price(Some(250_000)));
+    assert_eq!(rt; read_line(b"P 0"), price(Some(0)));
+    assert_eq!(rt; read_line(b"P -"), price(None));
 }
 
 #[test]
 fn reads_numbers_of_32_bits(rt: HostRuntime) {
-    assert_eq!(rt; read(b"P 4294967295"), Seen::Price(Some(4_294_967_295)));
-    assert_eq!(rt; read(b"K 65540 1"), Seen::Cancel([65_540, 1]));
+    assert_eq!(rt; read_line(b"P 4294967295"), price(Some(4_294_967_295)));
+    assert_eq!(rt; read_line(b"K 65540 1"), cancel(65_540, 1));
 }
 
 #[rattlefmt::skip]
@@ -83,14 +83,13 @@ const NO_FORMS: [&[u8]; 35] = [
 #[test]
 fn reads_no_other_line(rt: HostRuntime) {
     for line in NO_FORMS {
-        assert_eq!(rt; read(line), Seen::NoForm);
+        assert_eq!(rt; read_line(line), None);
     }
 }
 
-const FAULT: LineFault = LineFault {
-    line: 9,
-    reason: LineReason::Book(BookFault::UnknownFolio),
-};
+fn unknown_folio() -> LineFault {
+    LineReason::from(BookFault::UnknownFolio).at(9)
+}
 
 #[test]
 fn writes_each_line(rt: HostRuntime) -> Result<(), Fail> {
@@ -116,7 +115,7 @@ fn writes_each_line(rt: HostRuntime) -> Result<(), Fail> {
         volume: 300,
     };
     assert_eq!(rt; format!(in heap; "{cancel}")?.as_str(), "K 12 300");
-    let refused = OutputLine::Refused(FAULT);
+    let refused = OutputLine::Refused(unknown_folio());
     assert_eq!(rt; format!(in heap; "{refused}")?.as_str(), "R 8");
     let left = OutputLine::Left { folio: 12, left: 0 };
     assert_eq!(rt; format!(in heap; "{left}")?.as_str(), "L 12 0");
@@ -130,12 +129,8 @@ fn writes_each_line(rt: HostRuntime) -> Result<(), Fail> {
 
 #[test]
 fn tells_what_a_refusal_is_about(rt: HostRuntime) {
-    let no_form = LineFault {
-        line: 3,
-        reason: LineReason::NoForm,
-    };
     assert_eq!(rt;
-        no_form.refusal(),
+        Refusal::from(LineReason::NoForm.at(3)),
         Refusal {
             number: 27,
             layer: Layer::Line,
@@ -143,11 +138,20 @@ fn tells_what_a_refusal_is_about(rt: HostRuntime) {
         }
     );
     assert_eq!(rt;
-        FAULT.refusal(),
+        Refusal::from(unknown_folio()),
         Refusal {
             number: 8,
             layer: Layer::Line,
             place: 9,
+        }
+    );
+    let too_short = QuoteFault::from(MessageFault::TooShort);
+    assert_eq!(rt;
+        Refusal::from(LineReason::from(too_short).at(4)),
+        Refusal {
+            number: 13,
+            layer: Layer::Line,
+            place: 4,
         }
     );
 }

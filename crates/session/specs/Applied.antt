@@ -67,12 +67,7 @@ pub record MadeCall (line : List ℕ) (number : ℕ) (before : MidpointBook) (ta
   pub call : Call MidpointOrder
   pub readable : Readable call
   pub written : line ≡ line_of call
-  pub reply : Result Answer BookFault
-  pub answered : r ≡ line_reply number call reply
-  pub called : Called midpoint_kind volume_ranking before call (length tape) (outcome reply tape_after) after
-  pub taped : TapeAfter reply tape tape_after
-  pub table : SameTable before after
-  pub carried : (day : Day MidpointOrder) → Holds midpoint_kind before day → GoesOn midpoint_kind after (event volume_ranking call (length tape) (outcome reply tape_after)) day
+  pub made : Makes call number before tape after tape_after r
 
 abbrev pub Applies : List ℕ → ℕ → MidpointBook → List Fill → MidpointBook → List Fill → Result LineAnswer LineFault → Type 0
 Applies line number before tape after tape_after r =

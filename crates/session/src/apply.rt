@@ -13,8 +13,15 @@ use rules::call::{Answer, Call};
 // A midpoint book ranks by volume.
 pub type MidpointBook<'a> = OpenBook<'a, MidpointOrder, VolumePriority>;
 
+// A line of the input, and its number there.
+#[derive(Clone, Copy, Debug, PartialEq, Eq)]
+pub struct InputLine<'a> {
+    pub bytes: &'a [u8],
+    pub number: u64,
+}
+
 // What an accepted line answers.
-#[derive(Clone, Copy)]
+#[derive(Clone, Copy, Debug, PartialEq, Eq)]
 pub enum LineAnswer {
     // How many fills stand at the tape's front.
     Filled(usize),
@@ -23,15 +30,16 @@ pub enum LineAnswer {
         folio: u32,
         volume: u32,
     },
-    // The midpoint after a quote, whether it is another than before, and how many fills stand at the tape's front.
+    // The midpoints before and after a quote, and how many fills stand at the tape's front.
     Quoted {
+        before: Option<u32>,
         midpoint: Option<u32>,
-        changed: bool,
         fills: usize,
     },
 }
 
-// The folio that a call names, if it names one.
+// The folio that a call names, if it names one. An Option is no plainer: no answer tells the 0 of a price, since only a
+// cancel's folio is answered, and a None would have to be answered somehow.
 fn folio_of(call: &Call<MidpointOrder>) -> u32
     ensures { result ≡ folio_of call.now }
 {
@@ -56,38 +64,30 @@ fn answer_of(call: &Call<MidpointOrder>, answer: Answer) -> LineAnswer
 }
 
 // Makes the call of a line. A call that the book refuses is refused at the line's number, and alters nothing.
+// Book and tape are no one struct: the tape is lent anew to each call, so that a day can lend what is left of it.
 pub fn make_call(
     book: &mut MidpointBook<'_>,
     call: Call<MidpointOrder>,
-    number: u64,
+    line: InputLine<'_>,
     tape: &mut [Fill],
 ) -> Result<LineAnswer, LineFault>
-    ensures { Makes call number book.old tape.old book.new tape.new result }
+    ensures { Makes call line.entry.number book.old tape.old book.new tape.new result }
 {
-    match book.apply(call, tape) {
-        Ok(answer) => Ok(answer_of(&call, answer)),
-        Err(fault) => Err(LineFault {
-            line: number,
-            reason: LineReason::Book(fault),
-        }),
-    }
+    let answer = book
+        .apply(call, tape)
+        .map_err(|fault| LineReason::Book(fault).at(line.number))?;
+    Ok(answer_of(&call, answer))
 }
 
 // Makes the call that the line writes. A line that is none of the forms, or whose call the book refuses, is refused
 // at its number, and alters nothing.
 pub fn apply_line(
     book: &mut MidpointBook<'_>,
-    line: &[u8],
-    number: u64,
+    line: InputLine<'_>,
     tape: &mut [Fill],
 ) -> Result<LineAnswer, LineFault>
-    ensures { Applies line.now number book.old tape.old book.new tape.new result }
+    ensures { Applies line.entry.bytes.now line.entry.number book.old tape.old book.new tape.new result }
 {
-    let Some(call) = read_line(line) else {
-        return Err(LineFault {
-            line: number,
-            reason: LineReason::NoForm,
-        });
-    };
-    make_call(book, call, number, tape)
+    let call = read_line(line.bytes).ok_or(LineReason::NoForm.at(line.number))?;
+    make_call(book, call, line, tape)
 }

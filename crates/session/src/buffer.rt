@@ -1,49 +1,57 @@
 // The line that is being read from a stream of bytes.
-ghost use Rattle.std.specs.Prelude.{◌≡◌, ◌≤◌, [], ◌∷◌, ◌++◌, take};
+ghost use Rattle.std.specs.Prelude.{◌≡◌, ◌≤◌, [], ◌∷◌, ◌++◌, length, take};
+
+use arrayvec::ArrayVec;
+use std::marker::Model;
 
 // A line has at most 80 bytes. One more is kept, so that a longer line stays too long for every form.
 const KEPT: usize = 81;
 
-#[derive(Clone, Copy)]
+// A contract sees the bytes that are kept.
+#[derive(Drop)]
 pub struct LineBuffer {
-    bytes: [u8; KEPT],
-    len: usize,
-    ghost within: { len ≤ 81 },
+    bytes: ArrayVec<u8, KEPT>,
+}
+
+impl Model for LineBuffer {
+    ghost use Rattle.std.specs.Prelude.{ℕ, List};
+
+    ghost Value = { List ℕ };
+
+    ghost view = { λ buffer. buffer.bytes.items };
 }
 
 impl LineBuffer {
     // Nothing read yet.
     pub fn new() -> LineBuffer
-        ensures { take result.len result.bytes ≡ [] }
+        ensures { result ≡ [] }
     {
         LineBuffer {
-            bytes: [0; KEPT],
-            len: 0,
+            bytes: ArrayVec::new(),
         }
     }
 
     // One byte more.
     pub fn push(&mut self, byte: u8)
-        ensures { take self.new.len self.new.bytes ≡ take 81 (take self.old.len self.old.bytes ++ (byte ∷ [])) }
+        ensures { self.new ≡ take 81 (self.old ++ byte ∷ []) }
     {
-        let at = self.len;
-        if at < KEPT {
-            self.bytes[at] = byte;
-            self.len = at + 1;
+        if !self.bytes.is_full() {
+            self.bytes.push(byte);
         }
     }
 
     // The bytes so far, or the first 81 of them.
     pub fn line(&self) -> &[u8]
-        ensures { result.now ≡ take self.now.len self.now.bytes }
+        ensures bytes { result.now ≡ self.now }
+        ensures within { length result.now ≤ 81 }
     {
-        &self.bytes[0..self.len]
+        self.bytes.as_slice()
     }
 
     // The next line begins.
     pub fn clear(&mut self)
-        ensures { take self.new.len self.new.bytes ≡ [] }
+        ensures { self.new ≡ [] }
     {
-        self.len = 0;
+        self.bytes.clear();
     }
 }

@@ -1,65 +1,30 @@
-use Rattle.std.proofs.Common.{Ok, Err, refl, ap, ◌∙◌}
-use Rattle.std.proofs.lemmas.List.{take_rest}
-use Rattle.feed.proofs.Handing.{handed_on, long_enough}
+use Rattle.std.proofs.Common.{Ok, Err, refl, ap, ◌∙◌, inr}
+use Rattle.std.proofs.lemmas.Result.{err_from_is_err_and}
+use Rattle.feed.proofs.Handing.{handed_on}
 use Rattle.feed.proofs.call.feed.Goals as goal
 
-pub slice_bounds-result-count : goal.slice_bounds-result-count
-slice_bounds-result-count g c =
-    let board = c.args.board.now in
-    long_enough board.instrument board.quotes.security c.args.bytes.now c.in-Ok.ensures.1.accepted
+pub returns-in_err-fills : goal.returns-in_err-fills
+returns-in_err-fills g c =
+    let laid = c.in_ok-copy.ensures in
+    let refused = c.in_err-fills.ensures in
+    let told = err_from_is_err_and c.from_residual-in_err-fills.result c.from_residual-in_err-fills.ensures.1 in
+    rw (told.1, told.2) (inr (handed_on c.in_ok-copy.copy.rows c.midpoint.result (Err c.in_err-fills.field-0.0) laid.1 c.midpoint.ensures.value refused.called refused.tape refused.table refl refl))
 
-pub slice_bounds-result-start : goal.slice_bounds-result-start
-slice_bounds-result-start g c =
-    let board = c.args.board.now in
-    long_enough board.instrument board.quotes.security c.args.bytes.now c.in-Ok.ensures.1.accepted
-
-pub returns-in-Ok-set_price : goal.returns-in-Ok-set_price
-returns-in-Ok-set_price g c =
-    let made = c.in-Ok-set_price.ensures in
+pub returns : goal.returns
+returns g c =
+    let laid = c.in_ok-copy.ensures in
+    let made = c.in_ok-fills.ensures in
     let is = c.replace.ensures in
+    inr (
     handed_on
-    g.O.Order.kind
-    g.P.Priority.ranking
-    c.args.bytes.now
-    c.args.board.now
-    c.replace.new.self
-    c.args.book.now
-    c.set_price.new.self
-    c.args.tape.now
-    c.set_price.new.tape
-    _
-    c.in-Ok.quotes.rows
+    c.in_ok-copy.copy.rows
     c.midpoint.result
-    (Ok c.in-Ok-set_price.fills)
-    c.in-Ok.ensures.1
+    (Ok c.in_ok-fills.fills)
+    laid.1
     c.midpoint.ensures.value
     made.called
     made.tape
     made.table
-    (refl, take_rest c.args.bytes.now 24)
-    (is.0, ap (λ q. q.security) is.1 ∙ c.in-Ok.ensures.0, ap (λ q. q.rows) is.1)
-
-pub returns-in-Err-set_price : goal.returns-in-Err-set_price
-returns-in-Err-set_price g c =
-    let made = c.in-Err-set_price.ensures in
-    handed_on
-    g.O.Order.kind
-    g.P.Priority.ranking
-    c.args.bytes.now
-    c.args.board.now
-    _
-    c.args.book.now
-    c.set_price.new.self
-    c.args.tape.now
-    c.set_price.new.tape
-    _
-    c.in-Ok.quotes.rows
-    c.midpoint.result
-    (Err c.in-Err-set_price.fault)
-    c.in-Ok.ensures.1
-    c.midpoint.ensures.value
-    made.called
-    made.tape
-    made.table
-    refl
-    refl
+    (refl, laid.2)
+    (is.0, ap (λ q. q.security) is.1 ∙ laid.0, ap (λ q. q.rows) is.1)
+    )

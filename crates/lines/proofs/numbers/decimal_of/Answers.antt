@@ -1,29 +1,26 @@
-use Rattle.std.proofs.Common.{◌≡◌, length, get_or}
-use Rattle.lines.proofs.Digits.{digits_utf8, leading_zero, zero_alone, parsed, not_parsed}
+use Rattle.std.proofs.Common.{◌≢◌, ◌<◌, length, get_or, arith, rules}
+use Rattle.lines.proofs.Digits.{digits_utf8, leading_zero, parsed, Ok-from_some, Err-from_none}
 use Rattle.lines.proofs.numbers.decimal_of.Goals as goal
-use Rattle.lines.proofs.numbers.decimal_of.Goals.{else-digits-gt1-via-then-digits-gt1+else-digits-eq48, else-digits-gt1-via-else-digits-gt1}
+use Rattle.lines.proofs.numbers.decimal_of.Goals.{then-digits-lt2, else-digits-lt2+in_default-1}
 
-pub returns-then-digits-eq48 : goal.returns-then-digits-eq48
-returns-then-digits-eq48 c = leading_zero c.args.digits.now c.if-digits-gt1.true c.if-digits-eq48.true
+pub returns-in-48 : goal.returns-in-48
+returns-in-48 c = leading_zero c.args.digits.now c.in-48.len_at_least (search rules)
 
-pub returns-in_default : goal.returns-in_default
-returns-in_default c n small e = c.in_default.ensures.cases.0 (digits_utf8 c.args.digits.now c.requires)
+pub returns-in_err-ok : goal.returns-in_err-ok
+returns-in_err-ok c =
+    let failed = Err-from_none c.from_utf8.result c.in_err-ok.ensures.value in
+    let told = rw failed.1 at c.from_utf8.ensures.cases in
+    absurd (told.0 (digits_utf8 c.args.digits.now c.requires))
 
-pub returns-in-Ok-parse : goal.returns-in-Ok-parse
-returns-in-Ok-parse c =
+pub returns : goal.returns
+returns c =
     let ds = c.args.digits.now in
-    let reads = rw c.in-Ok.ensures.cases.0 at c.parse.ensures.value.0 in
-    let no_zero : get_or ds 0 0 ≡ 48 → length ds ≡ 1 =
-    λ e.
-    elim c.else-digits-gt1.branch [
-      | else-digits-gt1-via-then-digits-gt1+else-digits-eq48 w ↦ absurd (w.if-digits-eq48.false e)
-      | else-digits-gt1-via-else-digits-gt1 w ↦ zero_alone ds w.if-digits-gt1.false e
+    let text = rw (Ok-from_some c.from_utf8.result c.in_ok-ok.field-0 c.in_ok-ok.ensures.value) at c.from_utf8.ensures.cases in
+    let no_zero : 1 < length ds → get_or ds 0 0 ≢ 48 =
+    λ long.
+    elim c.if-digits-lt2.branch [
+      | then-digits-lt2 w ↦ search (rules, arith)
+      | else-digits-lt2+in_default-1 w ↦ search (rules, arith)
     ]
     in
-    parsed ds c.requires c.parse.result reads c.in-Ok-parse.n no_zero c.in-Ok-parse.is
-
-pub returns-in-Err : goal.returns-in-Err
-returns-in-Err c =
-    let ds = c.args.digits.now in
-    let reads = rw c.in-Ok.ensures.cases.0 at c.parse.ensures.value.0 in
-    not_parsed ds c.requires c.parse.result reads c.in-Err.field-0 c.in-Err.is
+    rw c.ok-2.ensures.value (parsed ds c.parse.result c.requires no_zero (rw text.0 at c.parse.ensures.value.0))

@@ -1,8 +1,0 @@
-use Rattle.std.proofs.Common.{ℕ, List, ◌∷◌, ap}
-use Rattle.lines.proofs.Forms.{by_elements}
-use Rattle.lines.proofs.reading.read_cancel.Goals as goal
-
-pub returns : goal.returns
-returns c =
-    let read = by_elements 2 c.args.fields.now c.in-Some.numbers c.in-Some.ensures in
-    ((read.0, tt), ap (λ (l : List ℕ). 75 ∷ l) read.1)
