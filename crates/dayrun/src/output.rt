@@ -62,7 +62,7 @@ pub(crate) fn write_unfilled<W: Write + Drop>(
 ) -> io::Result<()>
     requires { length (resting_orders book.now) ≤ 512 }
 {
-    let mut list = [Unfilled { folio: 0, left: 0 }; PLACES];
+    let mut list = [Unfilled::default(); PLACES];
     let count = book.unfilled(&mut list).unwrap();
     for order in &list[..count] {
         let (folio, left) = (order.folio, order.left);

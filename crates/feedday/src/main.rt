@@ -2,7 +2,7 @@
 // standard output.
 #![tactic(auto)]
 
-use arguments::{board_of, refuse_arguments};
+use arguments::run_on_board;
 use dayrun::desk::Desk;
 use dayrun::run::run_lines;
 use feedlines::apply::apply_feed_line;
@@ -30,11 +30,8 @@ impl Desk for Feeding {
 }
 
 fn main(rt: HostRuntime) -> anyhow::Result<ExitCode> {
-    match board_of(&rt)? {
-        Some(board) => {
-            run_lines(&mut Feeding { board }, &rt)?;
-            Ok(ExitCode::SUCCESS)
-        }
-        None => refuse_arguments(&rt, "feedday"),
-    }
+    run_on_board(&rt, "feedday", |board| {
+        run_lines(&mut Feeding { board }, &rt)?;
+        Ok(())
+    })
 }
