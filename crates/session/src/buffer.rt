@@ -8,7 +8,7 @@ use std::marker::Model;
 const KEPT: usize = 81;
 
 // A contract sees the bytes that are kept.
-#[derive(Drop)]
+#[derive(Clone, Drop)]
 pub struct LineBuffer {
     bytes: ArrayVec<u8, KEPT>,
 }
