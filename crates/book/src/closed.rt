@@ -12,6 +12,7 @@ pub struct Unfilled {
     pub left: u32,
 }
 
+// Two fields are the open book's too: a struct of both would be no plainer, and every contract's path to them longer.
 pub struct ClosedBook<'a, O> {
     pub(crate) table: &'a mut [O],
     pub(crate) resting: usize,

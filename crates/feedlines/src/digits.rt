@@ -5,7 +5,7 @@ ghost use Rattle.feedlines.specs.Digits.{Spells, byte_of, digit_value};
 use quotes::message::MESSAGE;
 
 // The value of a digit, in either case.
-// Kept by ranges, not by `to_digit` or the crate `hex`: an edit that must be refused counts the letters from nine here.
+// By ranges: `to_digit` answers a number of 32 bits, which would have to be narrowed again.
 fn digit_value(digit: u8) -> Option<u8>
     ensures value { result ≡ digit_value digit }
     ensures small { IfSome result (λ n. n < 16) }

@@ -1,7 +1,6 @@
 // Why a line is refused.
 ghost use Rattle.std.specs.Prelude.{◌≡◌};
 ghost use Rattle.lines.specs.Faults.{refusal, fault_at};
-ghost use Rattle.lines.specs.declared.fault.LineReason.TheVariants.{Book, Quotes};
 
 use base::{Layer, Refusal};
 use feed::fault::QuoteFault;
@@ -15,22 +14,6 @@ pub enum LineReason {
     Book(BookFault),
     // The line's message was refused by the quotes.
     Quotes(QuoteFault),
-}
-
-impl From<BookFault> for LineReason {
-    ghost from_gives = { λ fault reason. reason ≡ Book fault };
-
-    fn from(fault: BookFault) -> LineReason {
-        LineReason::Book(fault)
-    }
-}
-
-impl From<QuoteFault> for LineReason {
-    ghost from_gives = { λ fault reason. reason ≡ Quotes fault };
-
-    fn from(fault: QuoteFault) -> LineReason {
-        LineReason::Quotes(fault)
-    }
 }
 
 impl LineReason {

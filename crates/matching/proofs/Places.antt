@@ -21,7 +21,3 @@ module _ {X : Type 0} where
   -- one element more of the front of a list
   pub take_read : (xs : List X) (i : ℕ) (x : X) → i < length xs → x ≡ get_or xs i x → take (i + 1) xs ≡ take i xs ++ (x ∷ [])
   take_read xs i x within read = grind (arith, common_steps)
-
-  -- what is the same from i on is the same from i + 1 on, and a write at i or before it does not touch that
-  pub drop_written : (xs ys : List X) (k i : ℕ) (y : X) → k ≤ i → drop i ys ≡ drop i xs → drop (i + 1) (set ys k y) ≡ drop (i + 1) xs
-  drop_written xs ys k i y le same = grind (arith, common_steps)

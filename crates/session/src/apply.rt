@@ -51,6 +51,7 @@ fn folio_of(call: &Call<MidpointOrder>) -> u32
     }
 }
 
+// By a function of both: a `From` would want the pair in one value, which is no plainer.
 fn answer_of(call: &Call<MidpointOrder>, answer: Answer) -> LineAnswer
     ensures { result ≡ line_answer call.now answer }
 {
