@@ -88,7 +88,7 @@ fn reads_no_other_line(rt: HostRuntime) {
 }
 
 fn unknown_folio() -> LineFault {
-    LineReason::from(BookFault::UnknownFolio).at(9)
+    LineReason::Book(BookFault::UnknownFolio).at(9)
 }
 
 #[test]
@@ -147,7 +147,7 @@ fn tells_what_a_refusal_is_about(rt: HostRuntime) {
     );
     let too_short = QuoteFault::from(MessageFault::TooShort);
     assert_eq!(rt;
-        Refusal::from(LineReason::from(too_short).at(4)),
+        Refusal::from(LineReason::Quotes(too_short).at(4)),
         Refusal {
             number: 13,
             layer: Layer::Line,
