@@ -3,7 +3,6 @@
 
 ghost use Rattle.std.specs.Prelude.{◌≡◌};
 ghost use Rattle.base.specs.Letters.{NamedBy};
-ghost use Rattle.base.specs.Range.{within};
 ghost use Rattle.base.specs.Price.{price_in_range};
 
 // A purchase or a sale.
@@ -33,20 +32,13 @@ impl TryFrom<u8> for Side {
     }
 }
 
-// Is the number one of a range?
-pub fn is_within<const LOWEST: u32, const HIGHEST: u32>(number: u32) -> bool
-    ensures { result ≡ within LOWEST HIGHEST number }
-{
-    LOWEST <= number && number <= HIGHEST
-}
-
 const HIGHEST_PRICE: u32 = 100_000_000;
 
 // Is it a price, in ten-thousandths of a peso?
 pub fn is_price(price: u32) -> bool
     ensures { result ≡ price_in_range price }
 {
-    is_within::<1, HIGHEST_PRICE>(price)
+    (1..=HIGHEST_PRICE).contains(&price)
 }
 
 // The part of the service that refuses.

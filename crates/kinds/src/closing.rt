@@ -6,15 +6,16 @@ use orders::fault::OwnFault;
 use orders::order::Order;
 use orders::trade::Header;
 
-#[derive(Clone, Copy, PartialEq, Eq, Debug)]
+#[derive(Clone, Copy, PartialEq, Eq, Debug, Default)]
 pub enum Quantity {
     // Any volume.
+    #[default]
     Partial,
     // Only all that is left.
     AllOrNone,
 }
 
-#[derive(Clone, Copy, PartialEq, Eq, Debug)]
+#[derive(Clone, Copy, PartialEq, Eq, Debug, Default)]
 pub struct ClosingOrder {
     pub header: Header,
     pub quantity: Quantity,

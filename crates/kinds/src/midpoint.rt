@@ -41,7 +41,7 @@ impl Order for MidpointOrder {
             return Err(OwnFault::BadProtection);
         }
         // The volume entered, since the minimum was given with it.
-        if self.minimum < LOWEST_MINIMUM || self.minimum > self.header.entered {
+        if !(LOWEST_MINIMUM..=self.header.entered).contains(&self.minimum) {
             return Err(OwnFault::BadMinimum);
         }
         Ok(())

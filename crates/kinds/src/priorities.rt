@@ -10,7 +10,7 @@ pub struct VolumePriority;
 impl Priority for VolumePriority {
     ghost ranking = { volume_ranking };
 
-    // Two comparisons by hand: a derived order of pairs would want `Reverse` around the volumes, which is no plainer.
+    // One comparison of pairs would mix what is of a and of b on both sides, which is no plainer.
     fn before(a: &Header, b: &Header) -> bool {
         a.entered > b.entered || (a.entered == b.entered && ArrivalPriority::before(a, b))
     }

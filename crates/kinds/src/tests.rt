@@ -34,7 +34,7 @@ fn closing(quantity: Quantity) -> ClosingOrder {
 
 // The number of the kind's own question that is answered no, or 0.
 fn own_number<O: Order>(order: O) -> u32 {
-    order.ask_own().map_or_else(OwnFault::number, |()| 0)
+    order.ask_own().err().map_or(0, OwnFault::number)
 }
 
 #[test]
