@@ -82,9 +82,8 @@ impl Block<'_> {
         ensures front { take self.now.shape.count list.new ≡ fills_in self.now.bytes.now self.now.shape.count }
         ensures behind { drop self.now.shape.count list.new ≡ drop self.now.shape.count list.old }
     {
-        // By place: of slots lent by `iter_mut` a proof knows, once the loan is over, only how many they are.
-        for place in 0..self.shape.count {
-            list[place] = self.fill(place);
+        for (place, slot) in list[..self.shape.count].iter_mut().enumerate() {
+            *slot = self.fill(place);
         }
     }
 }
