@@ -17,6 +17,7 @@ pub enum BlockFault {
 }
 
 // The refusal's number, and the place in the block that it is about.
+// A table of this enum alone: with other layers' tables it shares only the making of a `Refusal`, so one for all is no plainer.
 impl From<BlockFault> for Refusal {
     ghost from_gives = { λ f r. r ≡ refusal f };
 

@@ -19,12 +19,11 @@ fn judge(fills: &[Fill], shape: Shape, which: Entry) -> Result<(), BlockFault>
     which.judge(shape, fills.iter().copied())
 }
 
-// The low two bytes of a number, all that a house needs: `u16::try_from` is no plainer, as it would ask for a fault.
+// The low two bytes of a number: all that a house needs.
 fn low_bytes(number: u32) -> [u8; 2]
     ensures { result ≡ bytes2 number }
 {
-    let [_, _, high, low] = number.to_be_bytes();
-    [high, low]
+    ((number & 0xffff) as u16).to_be_bytes()
 }
 
 // Fills eight bytes with two numbers.
@@ -40,8 +39,9 @@ fn put_who(buyer: Party, seller: Party, out: &mut [u8])
     requires { length out.old ≡ 12 }
     ensures { out.new ≡ parties_entry buyer seller }
 {
-    put_two(buyer.folio, seller.folio, &mut out[0..8]);
-    out[8..12].copy_from_slice([low_bytes(buyer.house), low_bytes(seller.house)].as_flattened());
+    let (folios, houses) = out.split_at_mut(8);
+    put_two(buyer.folio, seller.folio, folios);
+    houses.copy_from_slice([low_bytes(buyer.house), low_bytes(seller.house)].as_flattened());
 }
 
 impl Entry {
