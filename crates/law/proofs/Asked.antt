@@ -38,7 +38,8 @@ module _ {O : Type 0} (kind : Kind O) where
   pub entry_accepted : (capacity : ℕ) (st : State O) (tape : ℕ) (o : O) → first_no (questions kind capacity st tape (Enter o)) ≡ 0 → (st.highest < (kind.header o).party.folio) × ((kind.header o).left ≡ (kind.header o).entered) × (0 < (kind.header o).left)
   entry_accepted capacity st tape o e =
       let all = accepted_yes capacity st tape (Enter o) e in
-      (grind (arith, nat_tests, all.1.0), grind (arith, nat_tests, all.1.1.0), grind (arith, nat_tests, all.1.1.0))
+      let from_volume = all.1.1 in
+      (grind (arith, nat_tests, all.1.0), grind (arith, nat_tests, from_volume.0), grind (arith, nat_tests, from_volume.0))
 
   -- an accepted cross has a folio above the highest
   pub cross_accepted : (capacity : ℕ) (st : State O) (tape : ℕ) (p : Party) (volume : ℕ) → first_no (questions kind capacity st tape (Cross p volume)) ≡ 0 → st.highest < p.folio

@@ -6,7 +6,7 @@ use Rattle.orders.specs.declared.trade.Fill.{Fill}
 use Rattle.orders.specs.declared.trade.Header.{Header}
 use Rattle.orders.specs.Kind.{Kind}
 use Rattle.orders.specs.Ranking.{Ranking}
-use Rattle.rules.specs.Pairs.{buys, sells, can_trade, pair_volume, stands_before, Place}
+use Rattle.rules.specs.Pairs.{buys, sells, can_trade, pair_volume, stands_before, Place, Still}
 use Rattle.rules.specs.Sweep.{party_on, settled}
 use Rattle.rules.specs.declared.call.Call.{Call}
 use Rattle.rules.specs.declared.call.Call.TheVariants.{Enter, Cancel, Price, Cross}
@@ -35,7 +35,7 @@ module _ {O : Type 0} (kind : Kind O) where
   -- no resting pair can trade: with no price in force none can
   abbrev pub NoPairCanTrade : Option ℕ → List O → Type 0
   NoPairCanTrade None xs = Unit {0}
-  NoPairCanTrade (Some price) xs = (i j : ℕ) (b s : O) → Place xs i b → Place xs j s → can_trade kind price b s ≡ false
+  NoPairCanTrade (Some price) xs = Still kind price xs
 
   -- a fill is in turn: its two orders rested just before it, could trade at the price in force, which is its price,
   -- and it passes over no third order that could trade with one of the two and stood before the other for it
