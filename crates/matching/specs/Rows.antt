@@ -38,7 +38,7 @@ module _ {O : Type 0} (kind : Kind O) where
 
   -- the first pair of one row: the order at the row's place, as the buy, and its first sell
   abbrev pub RowPair : Ranking → ℕ → List O → ℕ → O → Option Candidate → Type 0
-  RowPair rank price xs place order None = (l : ℕ) (t : O) → Place xs l t → can_trade kind price order t ≡ false
+  RowPair rank price xs place order None = FirstSell rank price xs order None
   RowPair rank price xs place order (Some new) =
       (new.buy ≡ place) × (new.buyer ≡ kind.header order) × BestSell rank price xs order new.sell new.seller
 

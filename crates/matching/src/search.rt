@@ -105,7 +105,7 @@ fn row_pair<O: Order, P: Priority>(
     ensures { RowPair O.kind P.ranking price orders.now place order.now result }
 {
     let buy = Shown::of(order);
-    if let Side::Sell = buy.header.side {
+    if buy.header.side == Side::Sell {
         return None;
     }
     let (sell, seller) = first_sell::<O, P>(orders, &buy, price)?;
