@@ -1,5 +1,5 @@
 -- The questions before each call, in their order, with the number that is given at a no.
-use Rattle.std.specs.Prelude.{ℕ, ◌-◌, min, Bool, false, cond, ◌&&◌, List, [], ◌∷◌, length, is_some, Some, None, Option, ◌==◌, nat_le, nat_lt}
+use Rattle.std.specs.Prelude.{ℕ, ◌-◌, min, Bool, false, cond, ◌&&◌, List, [], ◌∷◌, ◌++◌, length, is_some, Some, None, Option, ◌==◌, nat_le, nat_lt}
 use Rattle.base.specs.Price.{price_in_range}
 use Rattle.base.specs.Questions.{Question, ask}
 use Rattle.orders.specs.declared.trade.Party.{Party}
@@ -18,6 +18,11 @@ pub record State (O : Type 0) : Type 0 where
   pub price : Option ℕ
   pub highest : ℕ
 
+-- the two questions that an entry and a cross share
+abbrev pub party_questions : Party → ℕ → List Question
+party_questions p highest =
+    ask (house_in_range p.house) 1 ∷ ask (folio_in_range p.folio && nat_lt highest p.folio) 2 ∷ []
+
 module _ {O : Type 0} (kind : Kind O) where
   -- the resting order with a folio
   abbrev pub order_of : ℕ → List O → Option O
@@ -30,9 +35,8 @@ module _ {O : Type 0} (kind : Kind O) where
 
   abbrev pub entry_questions : ℕ → State O → ℕ → O → List Question
   entry_questions capacity st tape o =
-      ask (house_in_range (kind.header o).party.house) 1
-      ∷ ask (folio_in_range (kind.header o).party.folio && nat_lt st.highest (kind.header o).party.folio) 2
-      ∷ ask (volume_in_range (kind.header o).entered && (kind.header o).left == (kind.header o).entered) 3
+      party_questions (kind.header o).party st.highest
+      ++ ask (volume_in_range (kind.header o).entered && (kind.header o).left == (kind.header o).entered) 3
       ∷ ask (kind.refusal o == 0) (kind.refusal o)
       ∷ ask (nat_lt (length st.resting) capacity) 6
       ∷ ask (nat_le (length st.resting) tape) 7
@@ -51,9 +55,8 @@ module _ {O : Type 0} (kind : Kind O) where
 
   abbrev pub cross_questions : State O → ℕ → Party → ℕ → List Question
   cross_questions st tape p volume =
-      ask (house_in_range p.house) 1
-      ∷ ask (folio_in_range p.folio && nat_lt st.highest p.folio) 2
-      ∷ ask (volume_in_range volume) 3
+      party_questions p st.highest
+      ++ ask (volume_in_range volume) 3
       ∷ ask (is_some st.price) 11
       ∷ ask (nat_le 1 tape) 7
       ∷ []
