@@ -1,13 +1,10 @@
-use Rattle.std.proofs.Common.{take, filter, ap, ◌∙◌, rules}
+use Rattle.std.proofs.Common.{filter, ap, ◌∙◌, rules}
 use Rattle.std.proofs.lemmas.List.{map-id}
-use Rattle.matching.proofs.ClosingUp.{kept_mapped}
+use Rattle.matching.proofs.ClosingUp.{kept_where}
 use Rattle.rules.specs.Calls.{other_folio}
 use Rattle.book.proofs.table.remove_folio.Goals as goal
 
 pub returns-clause-front : goal.returns-clause-front
 returns-clause-front g c =
     let other = other_folio g.O.Order.kind c.args.folio in
-    ◌∙◌
-    {a = take c.close_up.result c.close_up.new.items}
-    (c.close_up.ensures.front _ (λ x r met. search rules))
-    (kept_mapped (λ o. o) other c.args.orders.now ∙ ap (filter other) (map-id c.args.orders.now))
+    kept_where (λ o. o) other (λ x r met. search rules) c.args.orders.now _ c.close_up.ensures.front ∙ ap (filter other) (map-id c.args.orders.now)
