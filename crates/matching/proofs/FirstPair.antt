@@ -23,7 +23,7 @@ module _ {O : Type 0} (kind : Kind O) (rank : Ranking) (price : ℕ) (xs : List 
       ]
 
   -- the best stays where no pair of row n comes before it
-  stays : (n : ℕ) (order : O) (best : Candidate) → Place xs n order → BestPair kind rank price xs n best → ((l : ℕ) (t : O) → Place xs l t → can_trade kind price order t ≡ true → comes_before rank n (kind.header order) (kind.header t) best.buy best.buyer best.seller ≡ false) → BestPair kind rank price xs (n + 1) best
+  stays : (n : ℕ) (order : O) (best : Candidate) → Place xs n order → BestPair kind rank price xs n best → ((l : ℕ) (t : O) → Place xs l t → can_trade kind price order t ≡ true → comes_before rank n (kind.header order) (kind.header t) best.buy.place best.buy.header best.sell.header ≡ false) → BestPair kind rank price xs (n + 1) best
   stays n order best there first row =
       record {
         buy = first.buy;
@@ -49,7 +49,7 @@ module _ {O : Type 0} (kind : Kind O) (rank : Ranking) (price : ℕ) (xs : List 
       stays n order best there first (λ l t q can. absurd (both_ways (can_trade kind price order t) (row l t q) can))
 
   -- the first pair of row n, once no pair of an earlier row comes before it
-  taken : (n : ℕ) (order : O) (new : Candidate) → Place xs n order → RowPair kind rank price xs n order (Some new) → ((k l : ℕ) (c t : O) → k < n → Place xs k c → Place xs l t → can_trade kind price c t ≡ true → comes_before rank k (kind.header c) (kind.header t) n (kind.header order) new.seller ≡ false) → BestPair kind rank price xs (n + 1) new
+  taken : (n : ℕ) (order : O) (new : Candidate) → Place xs n order → RowPair kind rank price xs n order (Some new) → ((k l : ℕ) (c t : O) → k < n → Place xs k c → Place xs l t → can_trade kind price c t ≡ true → comes_before rank k (kind.header c) (kind.header t) n (kind.header order) new.sell.header ≡ false) → BestPair kind rank price xs (n + 1) new
   taken n order new there row before =
       let best = row.2 in
       record {
@@ -65,7 +65,7 @@ module _ {O : Type 0} (kind : Kind O) (rank : Ranking) (price : ℕ) (xs : List 
             rw (row.0, row.1)
             (elim (row_cases n k order c there below p) [
               | inl under ↦ before k l c t under p q can
-              | inr here ↦ rw (here.0, here.1) (sells_compared rank n (kind.header order) (kind.header t) new.seller ∙ best.none_before l t q (rw here.1 at can))
+              | inr here ↦ rw (here.0, here.1) (sells_compared rank n (kind.header order) (kind.header t) new.sell.header ∙ best.none_before l t q (rw here.1 at can))
             ]);
       }
 
@@ -74,24 +74,24 @@ module _ {O : Type 0} (kind : Kind O) (rank : Ranking) (price : ℕ) (xs : List 
   replaced n order best new there row first sooner =
       taken n order new there row (λ k l c t under p q can.
       false_from_ne_true
-      (comes_before rank k (kind.header c) (kind.header t) n (kind.header order) new.seller)
+      (comes_before rank k (kind.header c) (kind.header t) n (kind.header order) new.sell.header)
       (λ before.
       both_ways
-      (comes_before rank k (kind.header c) (kind.header t) best.buy best.buyer best.seller)
+      (comes_before rank k (kind.header c) (kind.header t) best.buy.place best.buy.header best.sell.header)
       (first.none_before k l c t under p q can)
-      (rows_transitive rank k n best.buy (kind.header c) (kind.header t) (kind.header order) new.seller best.buyer best.seller (λ e. omega arith) before (rw row.1 at sooner))))
+      (rows_transitive rank k n best.buy.place (kind.header c) (kind.header t) (kind.header order) new.sell.header best.buy.header best.sell.header (λ e. omega arith) before (rw row.1 at sooner))))
 
   -- it does not, and the best stays
   not_sooner : (n : ℕ) (order : O) (best new : Candidate) → Place xs n order → RowPair kind rank price xs n order (Some new) → BestPair kind rank price xs n best → earlier rank new best ≡ false → BestPair kind rank price xs (n + 1) best
   not_sooner n order best new there row first later =
       stays n order best there first (λ l t q can.
       false_from_ne_true
-      (comes_before rank n (kind.header order) (kind.header t) best.buy best.buyer best.seller)
+      (comes_before rank n (kind.header order) (kind.header t) best.buy.place best.buy.header best.sell.header)
       (λ before.
       both_ways
       (earlier rank new best)
       later
-      (rw row.1 (row_raised rank n best.buy (kind.header order) (kind.header t) new.seller best.buyer best.seller (λ e. omega (arith, first.above)) (row.2.none_before l t q can) before))))
+      (rw row.1 (row_raised rank n best.buy.place (kind.header order) (kind.header t) new.sell.header best.buy.header best.sell.header (λ e. omega (arith, first.above)) (row.2.none_before l t q can) before))))
 
   -- one row more
   pub row_more : (n : ℕ) (order : O) (best row : Option Candidate) → Place xs n order → RowPair kind rank price xs n order row → FirstOf kind rank price xs n best → FirstOf kind rank price xs (n + 1) (chosen rank best row)
@@ -108,7 +108,7 @@ module _ {O : Type 0} (kind : Kind O) (rank : Ranking) (price : ℕ) (xs : List 
       (not_sooner n order best new there row first)
 
   -- all rows read
-  pub first_of_all : (n : ℕ) (best : Option Candidate) → length xs ≤ n → FirstOf kind rank price xs n best → MatchOption {T = ℕ × ℕ} (option_map (λ pair. (pair.buy, pair.sell)) best) (Still kind price xs) (λ p. (b : O) × (s : O) × First kind rank price xs p.0 p.1 b s)
+  pub first_of_all : (n : ℕ) (best : Option Candidate) → length xs ≤ n → FirstOf kind rank price xs n best → MatchOption {T = ℕ × ℕ} (option_map (λ pair. (pair.buy.place, pair.sell.place)) best) (Still kind price xs) (λ p. (b : O) × (s : O) × First kind rank price xs p.0 p.1 b s)
   first_of_all n None all none = λ i j b s p q. none i j b s (omega (arith, p.0)) p q
   first_of_all n (Some best) all first = (
     first.buy,

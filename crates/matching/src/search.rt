@@ -40,13 +40,18 @@ impl<'a, O: Order> Shown<'a, O> {
     }
 }
 
-// A pair that can trade: its two places, and what its buy and its sell show.
+// An order by its place, and what it shows.
+#[derive(Clone, Copy)]
+struct Placed {
+    place: usize,
+    header: Header,
+}
+
+// A pair that can trade.
 #[derive(Clone, Copy)]
 struct Candidate {
-    buy: usize,
-    sell: usize,
-    buyer: Header,
-    seller: Header,
+    buy: Placed,
+    sell: Placed,
 }
 
 fn one_house(one: &Header, other: &Header) -> bool
@@ -55,14 +60,14 @@ fn one_house(one: &Header, other: &Header) -> bool
     one.party.house == other.party.house
 }
 
-// What is of one house comes before what is not; of two alike in this the priority decides between two orders.
+// What is of one house comes before what is not. Where both are, or neither is, the priority decides by a and b.
 fn own_first<P: Priority>(own: bool, other: bool, a: &Header, b: &Header) -> bool
     ensures { result ≡ own_first own other (P.ranking.before a.now b.now) }
 {
     if own == other { P::before(a, b) } else { own }
 }
 
-// For an order, does the first of two opposite ones stand before the second?
+// Does the order trade with a before it trades with b?
 fn stands_before<P: Priority>(order: &Header, a: &Header, b: &Header) -> bool
     ensures { result ≡ stands_before P.ranking order.now a.now b.now }
 {
@@ -70,26 +75,29 @@ fn stands_before<P: Priority>(order: &Header, a: &Header, b: &Header) -> bool
 }
 
 // Is this sell better for the buy than the best so far?
-fn is_better<P: Priority>(buy: &Header, sell: &Header, best: Option<(usize, Header)>) -> bool
+fn is_better<P: Priority>(buy: &Header, sell: &Header, best: Option<Placed>) -> bool
     ensures { result ≡ better P.ranking buy.now sell.now best }
 {
-    best.is_none_or(|(_, header)| stands_before::<P>(buy, sell, &header))
+    best.is_none_or(|best| stands_before::<P>(buy, sell, &best.header))
 }
 
-// The first sell for one buy: its place and what it shows.
+// The first sell for one buy.
 // The orders and the price are two parameters: no fact ties them, and a struct of both would only be taken apart here.
 fn first_sell<O: Order, P: Priority>(
     orders: &[O],
     buy: &Shown<O>,
     price: u32,
-) -> Option<(usize, Header)>
+) -> Option<Placed>
     ensures { FirstSell O.kind P.ranking price orders.now buy.now.order.now result }
 {
     let mut best = None;
     for (place, order) in orders.iter().enumerate() {
         let sell = Shown::of(order);
         if buy.can_trade(&sell, price) && is_better::<P>(&buy.header, &sell.header, best) {
-            best = Some((place, sell.header));
+            best = Some(Placed {
+                place,
+                header: sell.header,
+            });
         }
     }
     best
@@ -108,22 +116,21 @@ fn row_pair<O: Order, P: Priority>(
     if buy.header.side == Side::Sell {
         return None;
     }
-    let (sell, seller) = first_sell::<O, P>(orders, &buy, price)?;
-    Some(Candidate {
-        buy: place,
-        sell,
-        buyer: buy.header,
-        seller,
-    })
+    let sell = first_sell::<O, P>(orders, &buy, price)?;
+    let buy = Placed {
+        place,
+        header: buy.header,
+    };
+    Some(Candidate { buy, sell })
 }
 
 // Does the pair of a later row come before the best so far?
 fn is_earlier<P: Priority>(new: &Candidate, best: &Candidate) -> bool
     ensures { result ≡ earlier P.ranking new.now best.now }
 {
-    let own_new = one_house(&new.buyer, &new.seller);
-    let own_best = one_house(&best.buyer, &best.seller);
-    own_first::<P>(own_new, own_best, &new.buyer, &best.buyer)
+    let own_new = one_house(&new.buy.header, &new.sell.header);
+    let own_best = one_house(&best.buy.header, &best.sell.header);
+    own_first::<P>(own_new, own_best, &new.buy.header, &best.buy.header)
 }
 
 // The better of the best so far and the pair of a later row.
@@ -142,5 +149,5 @@ pub fn find_pair<O: Order, P: Priority>(orders: &[O], price: u32) -> Option<(usi
     for (place, order) in orders.iter().enumerate() {
         best = better_pair::<P>(best, row_pair::<O, P>(orders, place, order, price));
     }
-    best.map(|pair| (pair.buy, pair.sell))
+    best.map(|pair| (pair.buy.place, pair.sell.place))
 }

@@ -82,7 +82,7 @@ pub fn sweep<O: Order, P: Priority>(
         return None;
     }
     let mut fills = 0;
-    // By count: a `for` over the tape's places would want a second exit, and there a reason why no pair is left.
+    // By count: a `for` over the tape's places would need a proof, where the places run out, that no pair is left.
     while let Some((fill, left)) = fill_first::<O, P>(&mut orders[..resting], price) {
         tape[fills] = fill;
         fills += 1;

@@ -15,5 +15,5 @@ loop-place-preserved g c =
 
 pub returns : goal.returns
 returns g c =
-    let places : c.map.result ≡ option_map (λ (pair : Candidate). (pair.buy, pair.sell)) c.loop-place.best = search rules in
+    let places : c.map.result ≡ option_map (λ (pair : Candidate). (pair.buy.place, pair.sell.place)) c.loop-place.best = search rules in
     rw places (first_of_all g.O.Order.kind g.P.Priority.ranking c.args.price c.args.orders.now c.loop-place.place c.loop-place.best c.loop-place-test.false c.loop-place.invariant)

@@ -13,7 +13,7 @@ loop-place-preserved g c =
     let x = c.index-orders-place.result in
     let i = c.loop-place.place in
     let best = c.loop-place.best in
-    let now : c.if-can_trade.best ≡ cond (can_trade kind c.args.price buy x && better rank (kind.header buy) (kind.header x) best) (Some (i, kind.header x)) best =
+    let now : c.if-can_trade.best ≡ cond (can_trade kind c.args.price buy x && better rank (kind.header buy) (kind.header x) best) (Some (record { place = i; header = kind.header x })) best =
     elim c.if-can_trade.branch [
       | then-can_trade+then-is_better w ↦ grind arith
       | else-can_trade w ↦ elim w.else-can_trade.branch [ else-can_trade-via-then-can_trade+else-is_better w' ↦ grind arith | else-can_trade-via-else-can_trade w' ↦ grind arith ]
