@@ -7,7 +7,7 @@ ghost use Rattle.rules.specs.declared.call.Call.TheVariants.{Enter, Cancel, Pric
 ghost use Rattle.book.specs.Asked.{Asked, party_questions};
 ghost use Rattle.book.specs.View.{places, view};
 
-use crate::open::OpenBook;
+use crate::open::{CAPACITY, OpenBook};
 use crate::table::find_folio;
 use base::is_price;
 use orders::limits::{is_folio, is_house, is_volume};
@@ -15,9 +15,6 @@ use orders::order::Order;
 use orders::priority::Priority;
 use orders::trade::{Header, Party};
 use rules::fault::BookFault;
-
-// A book has at most this many places, however many its table has.
-const CAPACITY: usize = 512;
 
 // In range, and all of it left?
 fn is_whole(header: &Header) -> bool

@@ -14,6 +14,7 @@ pub struct Unfilled {
 
 // Two fields are the open book's too: a struct of both would be no plainer, and every contract's path to them longer.
 pub struct ClosedBook<'a, O> {
+    // The lent table and how many of its orders rest: a form of this project (no heap; the table is given back whole).
     pub(crate) table: &'a mut [O],
     pub(crate) resting: usize,
     // The first orders of the table rest.

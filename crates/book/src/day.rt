@@ -14,6 +14,7 @@ use rules::fault::BookFault;
 pub type Reply = Result<Answer, BookFault>;
 
 // The book after a day, and how many fills the day made.
+// No Result of both: the book comes back also where no call was made, or its caller would lose the lent table.
 pub struct DayRun<'a, O, P> {
     pub book: OpenBook<'a, O, P>,
     pub fills: Result<usize, BookFault>,

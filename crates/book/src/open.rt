@@ -11,8 +11,12 @@ use rules::call::{Answer, Call};
 use rules::fault::BookFault;
 use std::marker::PhantomData;
 
+// A book has at most this many places, however many its table has.
+pub const CAPACITY: usize = 512;
+
 // Its one priority is a parameter of its type, so every call on it uses the same.
 pub struct OpenBook<'a, O, P> {
+    // The lent table and how many of its orders rest: a form of this project (no heap; the table is given back whole).
     pub(crate) table: &'a mut [O],
     pub(crate) resting: usize,
     pub(crate) price: Option<u32>,
