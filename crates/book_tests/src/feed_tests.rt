@@ -1,24 +1,13 @@
 // Messages fed to a board and a book at once.
+use crate::closing::order;
 use base::{Layer, Refusal, Side};
 use book::open::OpenBook;
 use feed::call::feed;
 use kinds::closing::{ClosingOrder, Quantity};
 use kinds::priorities::ArrivalPriority;
-use orders::trade::{Fill, Header, Party};
+use orders::trade::Fill;
 use quotes::board::QuoteBoard;
 use quotes::ticks::SecurityType;
-
-fn order(side: Side, house: u32, folio: u32) -> ClosingOrder {
-    ClosingOrder {
-        header: Header {
-            side,
-            party: Party { house, folio },
-            entered: 100,
-            left: 100,
-        },
-        quantity: Quantity::Partial,
-    }
-}
 
 // The BMV bids 245,000 for instrument 7001, and offers at 245,100; three bytes follow the offer.
 #[rattlefmt::skip]
@@ -59,11 +48,11 @@ fn fed(
 type Day = ([Told; 5], Option<u32>, Option<u32>);
 
 fn day(tape: &mut [Fill; 1]) -> Day {
-    let mut table = [order(Side::Buy, 1, 1); 4];
+    let mut table = [order(Side::Buy, 1, 1, 100, Quantity::Partial); 4];
     let mut board = QuoteBoard::new(7001, SecurityType::Equity);
     let mut book: OpenBook<'_, ClosingOrder, ArrivalPriority> = OpenBook::new(&mut table);
-    let _ = book.enter(order(Side::Buy, 4, 1), tape);
-    let _ = book.enter(order(Side::Sell, 8, 2), tape);
+    let _ = book.enter(order(Side::Buy, 4, 1, 100, Quantity::Partial), tape);
+    let _ = book.enter(order(Side::Sell, 8, 2, 100, Quantity::Partial), tape);
     let bid = fed(&mut board, &mut book, &BID, tape);
     let refused = fed(&mut board, &mut book, &OFFER, &mut []);
     let between = board.midpoint();
@@ -81,13 +70,14 @@ fn day(tape: &mut [Fill; 1]) -> Day {
 fn the_book_accepts_before_the_quotes_change(rt: HostRuntime) {
     let mut tape = [Fill::default()];
     let (told, between, after) = day(&mut tape);
-    let [bid, refused, short, other, offer] = told;
-    assert_eq!(rt; bid, Ok((0, 0)));
-    assert_eq!(rt; refused, quotes_refuse(7));
-    assert_eq!(rt; between, None);
-    assert_eq!(rt; short, quotes_refuse(13));
-    assert_eq!(rt; other, quotes_refuse(14));
-    assert_eq!(rt; offer, Ok((1, 3)));
-    assert_eq!(rt; after, Some(245_050));
+    let expected = [
+        Ok((0, 0)),
+        quotes_refuse(7),
+        quotes_refuse(13),
+        quotes_refuse(14),
+        Ok((1, 3)),
+    ];
+    assert_eq!(rt; told, expected);
+    assert_eq!(rt; (between, after), (None, Some(245_050)));
     assert_eq!(rt; (tape[0].price, tape[0].volume), (245_050, 100));
 }

@@ -1,26 +1,15 @@
 // A day of closing orders under arrival priority, run whole.
+use crate::closing::order;
 use base::{Refusal, Side};
 use book::closed::Unfilled;
 use book::day::{DayRun, Reply, run_day};
 use kinds::closing::{ClosingOrder, Quantity};
 use kinds::priorities::ArrivalPriority;
-use orders::trade::{Fill, Header, Party};
+use orders::trade::{Fill, Party};
 use rules::call::{Answer, Call};
 use rules::fault::BookFault;
 
 const UNANSWERED: Reply = Err(BookFault::ListTooShort);
-
-fn order(side: Side, house: u32, folio: u32, volume: u32, quantity: Quantity) -> ClosingOrder {
-    ClosingOrder {
-        header: Header {
-            side,
-            party: Party { house, folio },
-            entered: volume,
-            left: volume,
-        },
-        quantity,
-    }
-}
 
 fn enter(
     side: Side,
@@ -32,9 +21,9 @@ fn enter(
     Call::Enter(order(side, house, folio, volume, quantity))
 }
 
-// A reply, with the number of its refusal.
-fn numbered(reply: Reply) -> Result<Answer, u32> {
-    reply.map_err(|fault| Refusal::from(fault).number)
+// An answer, with the number of its refusal.
+fn numbered<T>(answer: Result<T, BookFault>) -> Result<T, u32> {
+    answer.map_err(|fault| Refusal::from(fault).number)
 }
 
 // A fill between two orders whose houses have the same numbers as their folios.
@@ -53,11 +42,30 @@ fn fill(price: u32, volume: u32, buyer: u32, seller: u32) -> Fill {
     }
 }
 
-// An all-or-none sell of 500 meets no buy of 300, and is filled whole by an all-or-none buy of 500, though a partial
-// buy came before.
-#[test]
-fn a_closing_day(rt: HostRuntime) {
-    let calls = [
+// What stands in a table before any order does.
+fn nothing() -> ClosingOrder {
+    order(Side::Buy, 0, 0, 0, Quantity::Partial)
+}
+
+// Makes the calls on a new book over the table and closes it: how many fills that made, and how many orders are listed.
+fn run(
+    table: &mut [ClosingOrder],
+    calls: &[Call<ClosingOrder>],
+    replies: &mut [Reply],
+    tape: &mut [Fill],
+    list: &mut [Unfilled],
+) -> (Result<usize, u32>, Result<usize, u32>) {
+    let DayRun { book, fills } = run_day::<ClosingOrder, ArrivalPriority>(
+        table, calls, replies, tape,
+    );
+    let closed = book.close();
+    let listed = closed.unfilled(list);
+    let _table = closed.end();
+    (numbered(fills), numbered(listed))
+}
+
+fn closing_calls() -> [Call<ClosingOrder>; 9] {
+    [
         enter(Side::Buy, 1, 1, 300, Quantity::Partial),
         enter(Side::Sell, 2, 2, 500, Quantity::AllOrNone),
         enter(Side::Sell, 3, 3, 100, Quantity::Partial),
@@ -70,40 +78,45 @@ fn a_closing_day(rt: HostRuntime) {
             party: Party { house: 7, folio: 7 },
             volume: 20,
         },
-    ];
-    let nothing = order(Side::Buy, 0, 0, 0, Quantity::Partial);
-    let mut table = [nothing; 4];
+    ]
+}
+
+// An all-or-none sell of 500 meets no buy of 300, and is filled whole by an all-or-none buy of 500, though a partial
+// buy came before. The folio that is not above the highest is refused.
+#[test]
+fn a_closing_day(rt: HostRuntime) {
     let mut replies = [UNANSWERED; 9];
     let mut tape = [Fill::default(); 16];
     let mut list = [Unfilled::default(); 4];
-    let DayRun { book, fills } = run_day::<ClosingOrder, ArrivalPriority>(
-        &mut table,
-        &calls,
+    let ran = run(
+        &mut [nothing(); 4],
+        &closing_calls(),
         &mut replies,
         &mut tape,
+        &mut list,
     );
-    let closed = book.close();
-    let listed = closed.unfilled(&mut list);
-    let _table = closed.end();
-    let [r0, r1, r2, r3, r4, r5, r6, r7, r8] = replies;
-    assert_eq!(rt; numbered(r0), Ok(Answer::Filled(0)));
-    assert_eq!(rt; numbered(r1), Ok(Answer::Filled(0)));
-    assert_eq!(rt; numbered(r2), Ok(Answer::Filled(0)));
-    assert_eq!(rt; numbered(r3), Ok(Answer::Filled(1)));
-    assert_eq!(rt; numbered(r4), Ok(Answer::Filled(1)));
-    assert_eq!(rt; numbered(r5), Err(2), "the folio is not above the highest");
-    assert_eq!(rt; numbered(r6), Ok(Answer::Filled(0)));
-    assert_eq!(rt; numbered(r7), Ok(Answer::Cancelled(400)));
-    assert_eq!(rt; numbered(r8), Ok(Answer::Filled(1)));
-    assert_eq!(rt; fills, Ok(3));
+    assert_eq!(rt; ran, (Ok(3), Ok(1)));
+    let told = [
+        Ok(Answer::Filled(0)),
+        Ok(Answer::Filled(0)),
+        Ok(Answer::Filled(0)),
+        Ok(Answer::Filled(1)),
+        Ok(Answer::Filled(1)),
+        Err(2),
+        Ok(Answer::Filled(0)),
+        Ok(Answer::Cancelled(400)),
+        Ok(Answer::Filled(1)),
+    ];
+    assert_eq!(rt; replies.map(numbered), told);
+    let fills = [
+        fill(245_050, 100, 1, 3),
+        fill(245_050, 500, 4, 2),
+        fill(245_050, 20, 7, 7),
+    ];
     let [f0, f1, f2, ..] = tape;
-    assert_eq!(rt; f0, fill(245_050, 100, 1, 3));
-    assert_eq!(rt; f1, fill(245_050, 500, 4, 2));
-    assert_eq!(rt; f2, fill(245_050, 20, 7, 7));
-    let [first, ..] = list;
-    assert_eq!(rt; listed, Ok(1));
+    assert_eq!(rt; [f0, f1, f2], fills);
     assert_eq!(rt;
-        first,
+        list[0],
         Unfilled {
             folio: 1,
             left: 200
@@ -120,39 +133,29 @@ fn arrival_comes_first(rt: HostRuntime) {
         enter(Side::Buy, 2, 2, 5_000, Quantity::Partial),
         enter(Side::Sell, 3, 3, 30, Quantity::Partial),
     ];
-    let nothing = order(Side::Buy, 0, 0, 0, Quantity::Partial);
-    let mut table = [nothing; 4];
-    let mut replies = [UNANSWERED; 4];
     let mut tape = [Fill::default(); 4];
-    let DayRun { book, fills } = run_day::<ClosingOrder, ArrivalPriority>(
-        &mut table,
+    let (fills, _) = run(
+        &mut [nothing(); 4],
         &calls,
-        &mut replies,
+        &mut [UNANSWERED; 4],
         &mut tape,
+        &mut [],
     );
-    let closed = book.close();
-    let _table = closed.end();
-    let [f0, f1, ..] = tape;
     assert_eq!(rt; fills, Ok(2));
-    assert_eq!(rt; f0, fill(100, 10, 1, 3));
-    assert_eq!(rt; f1, fill(100, 20, 2, 3));
+    let [f0, f1, ..] = tape;
+    assert_eq!(rt; [f0, f1], [fill(100, 10, 1, 3), fill(100, 20, 2, 3)]);
 }
 
 // With no place for each answer no call is made.
 #[test]
 fn too_few_replies(rt: HostRuntime) {
     let calls = [Call::Price(Some(100)), Call::Price(None)];
-    let nothing = order(Side::Buy, 0, 0, 0, Quantity::Partial);
-    let mut table = [nothing; 1];
-    let mut replies = [UNANSWERED; 1];
-    let mut tape = [Fill::default(); 1];
-    let DayRun { book, fills } = run_day::<ClosingOrder, ArrivalPriority>(
-        &mut table,
+    let (fills, _) = run(
+        &mut [nothing()],
         &calls,
-        &mut replies,
-        &mut tape,
+        &mut [UNANSWERED],
+        &mut [Fill::default()],
+        &mut [],
     );
-    let closed = book.close();
-    let _table = closed.end();
-    assert_eq!(rt; fills.map_err(|fault| Refusal::from(fault).number), Err(12));
+    assert_eq!(rt; fills, Err(12));
 }
