@@ -1,13 +1,14 @@
 -- From what the code did to what a call comes to.
-use Rattle.std.proofs.Common.{◌≡◌, ℕ, List, [], ◌∷◌, ◌++◌, length, take, Some, None, filter, Option, sym, refl, ap, ◌∙◌}
+use Rattle.std.proofs.Common.{◌≡◌, ℕ, List, length, take, Some, None, filter, Option, sym, refl, ap, ◌∙◌}
 use Rattle.base.specs.Questions.{first_no}
 use Rattle.law.proofs.Sweeps.{sweep_settles}
 use Rattle.orders.specs.declared.trade.Fill.{Fill}
 use Rattle.orders.specs.declared.trade.Party.{Party}
 use Rattle.orders.specs.Kind.{Kind}
 use Rattle.orders.specs.Ranking.{Ranking}
-use Rattle.rules.specs.declared.call.Call.TheVariants.{Enter, Cancel, Price}
-use Rattle.rules.specs.Calls.{Swept, TakesOut, all_settled, cancelled, filled, other_folio}
+use Rattle.rules.specs.declared.call.Call.{Call}
+use Rattle.rules.specs.declared.call.Call.TheVariants.{Cancel}
+use Rattle.rules.specs.Calls.{Makes, Swept, TakesOut, all_settled, between_orders, cancelled, filled, highest_after, other_folio, price_after, with_entered}
 use Rattle.rules.specs.Questions.{State, capacity_of, cancel_questions, questions}
 use Rattle.book.specs.declared.open.OpenBook.{OpenBook}
 use Rattle.book.specs.Called.{Called}
@@ -26,22 +27,14 @@ swept_settles kind rank (Some p) xs ys fs s = sweep_settles kind s
 module _ {O P : Type 0} (kind : Kind O) (rank : Ranking) (before : OpenBook O P) where
   -- an entry and a price are swept on the book that they make of the one before
   module _ (made after : OpenBook O P) (tape tape_after : List Fill) (fills : ℕ) (s : SweptBook kind rank made tape after tape_after fills) where
-    left_settled : (xs : List O) → (view made).resting ≡ xs → (view after).resting ≡ all_settled kind (take fills tape_after) xs
-    left_settled xs is =
-        swept_settles kind rank made.price (view made).resting (view after).resting (take fills tape_after) s.swept ∙ ap (all_settled kind (take fills tape_after)) is
+    abbrev told : List Fill
+    told = take fills tape_after
 
-    pub entered : (o : O) → first_no (questions kind (capacity_of (places before)) (view before) (length tape) (Enter o)) ≡ 0 → (view made).resting ≡ (view before).resting ++ (o ∷ []) → made.price ≡ before.price → made.highest ≡ (kind.header o).party.folio → Called kind rank before (Enter o) (length tape) (filled (take fills tape_after)) after
-    entered o none joined price highest =
+    pub swept_on : (call : Call O) → first_no (questions kind (capacity_of (places before)) (view before) (length tape) call) ≡ 0 → (view made).resting ≡ with_entered kind call (view before).resting → made.price ≡ price_after before.price call (filled told) → made.highest ≡ highest_after kind before.highest call (filled told) → between_orders kind call told ≡ told → Makes kind rank (view before) call told → Called kind rank before call (length tape) (filled told) after
+    swept_on call none rests price highest between makes =
         record {
-          right = (none, ((view after).resting, rw (joined, price) at s.swept));
-          state = same_state _ _ _ _ _ _ (left_settled ((view before).resting ++ (o ∷ [])) joined) (s.price ∙ price) (s.highest ∙ highest);
-        }
-
-    pub priced : (price : Option ℕ) → first_no (questions kind (capacity_of (places before)) (view before) (length tape) (Price price)) ≡ 0 → (view made).resting ≡ (view before).resting → made.price ≡ price → made.highest ≡ before.highest → Called kind rank before (Price price) (length tape) (filled (take fills tape_after)) after
-    priced price none rests in_force highest =
-        record {
-          right = (none, ((view after).resting, rw (rests, in_force) at s.swept));
-          state = same_state _ _ _ _ _ _ (left_settled (view before).resting rests) (s.price ∙ in_force) (s.highest ∙ highest);
+          right = (none, makes);
+          state = same_state _ _ _ _ _ _ (swept_settles kind rank made.price (view made).resting (view after).resting told s.swept ∙ ap (all_settled kind told) rests ∙ ap (λ fs. all_settled kind fs (with_entered kind call (view before).resting)) (sym between)) (s.price ∙ price) (s.highest ∙ highest);
         }
 
   -- a cancel takes the order out, and nothing else changes

@@ -38,12 +38,6 @@ written used xs ys =
     ap (λ zs. take used xs ++ (ys ++ zs)) (drop-drop (length xs - used) used xs ∙ drop_all (used + (length xs - used)) xs (omega arith))
     ∙ ap (λ zs. take used xs ++ zs) (append-nil ys)
 
-take_front : {X : Type 0} (xs ys : List X) (m n : ℕ) → length xs ≡ m → take (m + n) (xs ++ ys) ≡ xs ++ take n ys
-take_front xs ys m n e = ap (λ k. take (k + n) (xs ++ ys)) (sym e) ∙ take-append-add xs ys n
-
-drop_front : {X : Type 0} (xs ys : List X) (m n : ℕ) → length xs ≡ m → drop (m + n) (xs ++ ys) ≡ drop n ys
-drop_front xs ys m n e = ap (λ k. drop (k + n) (xs ++ ys)) (sym e) ∙ drop-append-add xs ys n
-
 same_twice : {O P : Type 0} (a b c : OpenBook O P) → SameTable a b → SameTable b c → SameTable a c
 same_twice a b c p q = record { lent = q.lent ∙ p.lent; long = q.long ∙ p.long; free = q.free ∙ ap (λ n. n - c.resting) p.long }
 
@@ -90,13 +84,13 @@ module _ {O P : Type 0} {kind : Kind O} {rank : Ranking} {calls : List (Call O)}
         replies_long = length-set replies i r ∙ run.replies_long;
         fills_are =
             ap (take (used + told_fills r)) now
-            ∙ take_front (take used tape) lent_after used (told_fills r) front_long
+            ∙ (rw front_long at (take-append-add (take used tape) lent_after (told_fills r)))
             ∙ ap (λ fs. fs ++ take (told_fills r) lent_after) run.fills_are
             ∙ ap (λ fs. day_fills run.day ++ fs) part.front;
         fits = let n = ap length now in omega arith;
         tape_behind =
             ap (drop (used + told_fills r)) now
-            ∙ drop_front (take used tape) lent_after used (told_fills r) front_long
+            ∙ (rw front_long at (drop-append-add (take used tape) lent_after (told_fills r)))
             ∙ part.behind
             ∙ ap (drop (told_fills r)) (rest ∙ run.tape_behind)
             ∙ drop-drop (told_fills r) used tape₀;

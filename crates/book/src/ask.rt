@@ -23,7 +23,7 @@ fn is_whole(header: &Header) -> bool
     is_volume(header.entered) && header.left == header.entered
 }
 
-// Each is asked with the places that the tape has.
+// The questions of a call that can make fills also ask of `room`, the number of places that the lent tape has.
 impl<'a, O: Order, P: Priority> OpenBook<'a, O, P> {
     // How many orders may rest.
     fn capacity(&self) -> usize
@@ -47,8 +47,8 @@ impl<'a, O: Order, P: Priority> OpenBook<'a, O, P> {
 
     // The house, the folio and the volume of an entry, the kind's own questions, and whether the book and the tape
     // have room.
-    pub(crate) fn ask_entry(&self, order: &O, tape: usize) -> Result<(), BookFault>
-        ensures { Asked (questions O.kind (capacity_of (places self.now)) (view self.now) tape (Enter order.now)) result }
+    pub(crate) fn ask_entry(&self, order: &O, room: usize) -> Result<(), BookFault>
+        ensures { Asked (questions O.kind (capacity_of (places self.now)) (view self.now) room (Enter order.now)) result }
     {
         let header = order.header();
         self.ask_party(header.party)?;
@@ -59,7 +59,7 @@ impl<'a, O: Order, P: Priority> OpenBook<'a, O, P> {
         if self.capacity() <= self.resting {
             return Err(BookFault::BookFull);
         }
-        if tape < self.resting {
+        if room < self.resting {
             return Err(BookFault::TapeTooShort);
         }
         Ok(())
@@ -80,8 +80,8 @@ impl<'a, O: Order, P: Priority> OpenBook<'a, O, P> {
     }
 
     // A cross; where it may be made, the price in force.
-    pub(crate) fn ask_cross(&self, party: Party, volume: u32, tape: usize) -> Result<u32, BookFault>
-        ensures asked { Asked (questions O.kind (capacity_of (places self.now)) (view self.now) tape (Cross party volume)) result }
+    pub(crate) fn ask_cross(&self, party: Party, volume: u32, room: usize) -> Result<u32, BookFault>
+        ensures asked { Asked (questions O.kind (capacity_of (places self.now)) (view self.now) room (Cross party volume)) result }
         ensures made { IfOk result (λ p. self.now.price ≡ Some p) }
     {
         self.ask_party(party)?;
@@ -89,15 +89,15 @@ impl<'a, O: Order, P: Priority> OpenBook<'a, O, P> {
             return Err(BookFault::VolumeOutOfRange);
         }
         let price = self.price.ok_or(BookFault::NoPriceInForce)?;
-        if tape < 1 {
+        if room < 1 {
             return Err(BookFault::TapeTooShort);
         }
         Ok(price)
     }
 
     // A price to be put in force, or none.
-    pub(crate) fn ask_price(&self, price: Option<u32>, tape: usize) -> Result<(), BookFault>
-        ensures { Asked (questions O.kind (capacity_of (places self.now)) (view self.now) tape (Price price)) result }
+    pub(crate) fn ask_price(&self, price: Option<u32>, room: usize) -> Result<(), BookFault>
+        ensures { Asked (questions O.kind (capacity_of (places self.now)) (view self.now) room (Price price)) result }
     {
         let Some(price) = price else {
             return Ok(());
@@ -105,7 +105,7 @@ impl<'a, O: Order, P: Priority> OpenBook<'a, O, P> {
         if !is_price(price) {
             return Err(BookFault::PriceOutOfRange);
         }
-        if tape < self.resting.saturating_sub(1) {
+        if room < self.resting.saturating_sub(1) {
             return Err(BookFault::TapeTooShort);
         }
         Ok(())

@@ -26,6 +26,7 @@ pub struct OpenBook<'a, O, P> {
     ghost fits: { resting ≤ length table.now },
 }
 
+// Clauses relate before and after, as no invariant can; one name for all three (called, tape, table) fits 3 of 5 calls.
 impl<'a, O: Order, P: Priority> OpenBook<'a, O, P> {
     ghost use Rattle.std.specs.Prelude.{ℕ, ◌-◌, [], OnSome};
     ghost use Rattle.rules.specs.declared.call.Call.TheVariants.{Enter, Cancel, Price, Cross};
@@ -53,7 +54,8 @@ impl<'a, O: Order, P: Priority> OpenBook<'a, O, P> {
         }
     }
 
-    // Sweeps at the price in force, if there is one; the tape then has room for all fills. Answers how many that made.
+    // Sweeps at the price in force, if there is one; the caller has asked whether the tape has room for all fills. Answers
+    // how many that made.
     fn sweep(&mut self, tape: &mut [Fill]) -> usize
         requires { OnSome self.old.price (self.old.resting - 1 ≤ length tape.old) }
         ensures { SweptBook O.kind P.ranking self.old tape.old self.new tape.new result }

@@ -1,10 +1,12 @@
 use Rattle.std.proofs.Common.{◌<◌, length, refl, ap, rules}
 use Rattle.std.proofs.lemmas.List.{take_more_set}
-use Rattle.book.proofs.Made.{entered}
+use Rattle.book.proofs.Made.{swept_on}
+use Rattle.rules.specs.declared.call.Call.TheVariants.{Enter}
 use Rattle.book.proofs.open.OpenBook.enter.Goals as goal
 
 pub returns-clause-called : goal.returns-clause-called
 returns-clause-called g c =
     let book = c.args.self.now in
     let within : book.resting < length book.table.now = search rules in
-    entered g.O.Order.kind g.P.Priority.ranking book _ _ _ _ _ c.sweep.ensures c.args.order c.in_ok-ask_entry.ensures (take_more_set book.table.now book.resting c.args.order within) refl (ap (λ h. h.party.folio) c.header.ensures)
+    let joined = take_more_set book.table.now book.resting c.args.order within in
+    swept_on g.O.Order.kind g.P.Priority.ranking book _ _ _ _ _ c.sweep.ensures (Enter c.args.order) c.in_ok-ask_entry.ensures joined refl (ap (λ h. h.party.folio) c.header.ensures) refl (_, rw joined at c.sweep.ensures.swept)
