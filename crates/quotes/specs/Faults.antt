@@ -1,7 +1,8 @@
 -- What each refusal of a message tells.
-use Rattle.std.specs.Prelude.{ℕ}
+use Rattle.std.specs.Prelude.{◌≡◌, ℕ, List}
 use Rattle.base.specs.declared.Layer.TheVariants.{Message}
 use Rattle.base.specs.declared.Refusal.{Refusal}
+use Rattle.base.specs.Questions.{Question, first_no}
 use Rattle.quotes.specs.declared.fault.MessageFault.{MessageFault}
 use Rattle.quotes.specs.declared.fault.MessageFault.TheVariants.{TooShort, NotLastQuote, OtherInstrument, UnknownOrigin, UnknownSide, NegativeVolume, OffTick}
 
@@ -17,3 +18,7 @@ refusal UnknownOrigin = message_refusal 16 5
 refusal UnknownSide = message_refusal 17 22
 refusal NegativeVolume = message_refusal 18 6
 refusal OffTick = message_refusal 19 14
+
+-- the fault has the number of the first question that is answered no
+abbrev pub NamesFirstNo : List Question → MessageFault → Type 0
+NamesFirstNo questions fault = (refusal fault).number ≡ first_no questions

@@ -1,16 +1,19 @@
 -- The Last Quote message: where its fields stand, and the questions asked of them.
-use Rattle.std.specs.Prelude.{◌≡◌, ℕ, ◌/◌, ◌%◌, Bool, false, cond, ◌&&◌, ◌||◌, List, [], ◌∷◌, length, ℤ, pos, negsuc, is_some, Some, None, Option, ◌==◌, nat_le}
+use Rattle.std.specs.Prelude.{◌≡◌, ℕ, ◌/◌, ◌%◌, Bool, false, cond, ◌&&◌, ◌||◌, List, [], ◌∷◌, length, drop, ℤ, pos, negsuc, is_some, Some, None, Option, Result, MatchResult, ◌==◌, nat_le}
+use Rattle.std.specs.Borrow.{Bor}
 use Rattle.std.specs.Int.Signed.{non_neg}
 use Rattle.std.specs.Int.{w32, w64}
 use Rattle.std.proofs.Common.{to_z}
 use Rattle.base.specs.Bytes.{byte, number4, number8}
 use Rattle.base.specs.Letters.{side_of}
-use Rattle.base.specs.Questions.{Question, ask}
+use Rattle.base.specs.Questions.{Question, ask, first_no}
+use Rattle.quotes.specs.declared.fault.MessageFault.{MessageFault}
 use Rattle.quotes.specs.declared.message.Origin.{Origin}
 use Rattle.quotes.specs.declared.message.Origin.TheVariants.{Bmv, Biva}
 use Rattle.quotes.specs.declared.message.QuoteUpdate.{QuoteUpdate}
 use Rattle.quotes.specs.declared.message.RawQuote.{RawQuote}
 use Rattle.quotes.specs.declared.ticks.SecurityType.{SecurityType}
+use Rattle.quotes.specs.Faults.{NamesFirstNo}
 use Rattle.quotes.specs.Ticks.{on_tick}
 
 -- a number of four or eight bytes, the highest first, signed by its top bit
@@ -75,3 +78,17 @@ pub record Says (security : SecurityType) (f : RawQuote) (update : QuoteUpdate) 
   pub from_origin : origin_of f.origin ≡ Some update.origin
   pub on_side : side_of f.side ≡ Some update.side
   pub becomes : update.quote ≡ cond (clears f.volume) None (tick_price security f.price)
+
+-- the fields are judged: accepted where no question is answered no, with the update that they say; refused by the first that is
+abbrev pub Judges : ℤ → SecurityType → RawQuote → Result QuoteUpdate MessageFault → Type 0
+Judges instrument security f r =
+    MatchResult r
+    (λ u. (first_no (field_questions instrument security f) ≡ 0) × Says security f u)
+    (NamesFirstNo (field_questions instrument security f))
+
+-- the message at the front of the bytes is read: accepted with the update that its fields say, and the bytes behind it; or refused
+abbrev pub ReadsMessage : ℤ → SecurityType → List ℕ → Result (QuoteUpdate × Bor (List ℕ)) MessageFault → Type 0
+ReadsMessage instrument security bytes r =
+    MatchResult r
+    (λ p. (first_no (message_questions instrument security bytes) ≡ 0) × Says security (fields bytes) p.0 × (p.1.now ≡ drop 24 bytes))
+    (NamesFirstNo (message_questions instrument security bytes))

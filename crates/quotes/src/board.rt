@@ -1,10 +1,7 @@
 // The board: the four quotes of one instrument, and the midpoint between the best of them.
-ghost use Rattle.std.specs.Prelude.{◌≡◌, true, drop, IfSome, MatchResult};
-ghost use Rattle.base.specs.Questions.{first_no};
+ghost use Rattle.std.specs.Prelude.{◌≡◌, true, IfSome};
 ghost use Rattle.quotes.specs.declared.ticks.SecurityType.{SecurityType};
-ghost use Rattle.quotes.specs.Board.{no_quotes, standing, laid, highest_bid, lowest_offer, midpoint, ticked, all_ticked, IsBest, Exact, Lays};
-ghost use Rattle.quotes.specs.Faults.{refusal};
-ghost use Rattle.quotes.specs.Message.{message_questions};
+ghost use Rattle.quotes.specs.Board.{no_quotes, standing, laid, highest_bid, lowest_offer, midpoint, ticked, all_ticked, IsBest, Exact};
 
 use crate::fault::MessageFault;
 use crate::message::{Origin, QuoteUpdate, read_message};
@@ -104,6 +101,8 @@ pub struct QuoteBoard {
 }
 
 impl QuoteBoard {
+    ghost use Rattle.quotes.specs.Receiving.{LaysCopy, Receives};
+
     // A board on which no quote stands.
     pub fn new(instrument: i32, security: SecurityType) -> QuoteBoard
         ensures { (result.instrument ≡ instrument) × (result.quotes.security ≡ security) × (result.quotes.rows ≡ no_quotes) }
@@ -124,7 +123,7 @@ impl QuoteBoard {
 
     // The message at the front of the bytes, laid on a copy of the quotes, and the bytes behind it.
     pub fn lay<'a>(&self, bytes: &'a [u8]) -> Result<(Quotes, &'a [u8]), MessageFault>
-        ensures { MatchResult result (λ p. (p.0.security ≡ self.now.quotes.security) × Lays self.now.instrument self.now.quotes.security self.now.quotes.rows bytes.now p.0.rows × (p.1.now ≡ drop 24 bytes.now)) (λ f. (refusal f).number ≡ first_no (message_questions self.now.instrument self.now.quotes.security bytes.now)) }
+        ensures { LaysCopy self.now bytes.now result }
     {
         let quotes = self.quotes;
         let (update, rest) = read_message(bytes, self.instrument, quotes.security)?;
@@ -140,7 +139,7 @@ impl QuoteBoard {
 
     // One message taken, and the midpoint after it; a refused one changes nothing.
     pub fn receive(&mut self, bytes: &[u8]) -> Result<Option<u32>, MessageFault>
-        ensures { MatchResult result (λ m. (self.new.instrument ≡ self.old.instrument) × (self.new.quotes.security ≡ self.old.quotes.security) × Lays self.old.instrument self.old.quotes.security self.old.quotes.rows bytes.now self.new.quotes.rows × (m ≡ midpoint self.new.quotes.rows)) (λ f. ((refusal f).number ≡ first_no (message_questions self.old.instrument self.old.quotes.security bytes.now)) × (self.new ≡ self.old)) }
+        ensures { Receives self.old bytes.now self.new result }
     {
         let (quotes, _) = self.lay(bytes)?;
         self.replace(quotes);

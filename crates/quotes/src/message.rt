@@ -1,9 +1,7 @@
 // The Last Quote message: taken apart, then judged field by field.
-ghost use Rattle.std.specs.Prelude.{◌≡◌, ◌+◌, ◌<◌, length, drop, MatchOption, MatchResult, ok_or};
-ghost use Rattle.base.specs.Questions.{first_no};
+ghost use Rattle.std.specs.Prelude.{◌≡◌, ◌+◌, ◌<◌, length, drop, MatchOption, ok_or};
 ghost use Rattle.quotes.specs.declared.fault.MessageFault.TheVariants.{UnknownOrigin};
-ghost use Rattle.quotes.specs.Faults.{refusal};
-ghost use Rattle.quotes.specs.Message.{fields, origin_of, tick_price, Says, field_questions, message_questions};
+ghost use Rattle.quotes.specs.Message.{fields, origin_of, tick_price, Judges, ReadsMessage};
 
 use crate::fault::MessageFault;
 use crate::ticks::{SecurityType, is_on_tick};
@@ -97,7 +95,7 @@ fn price_of(security: SecurityType, hundred_millionths: i64) -> Option<u32>
 impl RawQuote {
     // The questions of the fields, in their order.
     fn judge(&self, instrument: i32, security: SecurityType) -> Result<QuoteUpdate, MessageFault>
-        ensures { MatchResult result (λ u. (first_no (field_questions instrument security self.now) ≡ 0) × Says security self.now u) (λ f. (refusal f).number ≡ first_no (field_questions instrument security self.now)) }
+        ensures { Judges instrument security self.now result }
     {
         let 'm' = self.kind as char else {
             return Err(MessageFault::NotLastQuote);
@@ -129,7 +127,7 @@ pub fn read_message(
     instrument: i32,
     security: SecurityType,
 ) -> Result<(QuoteUpdate, &[u8]), MessageFault>
-    ensures { MatchResult result (λ p. (first_no (message_questions instrument security bytes.now) ≡ 0) × Says security (fields bytes.now) p.0 × (p.1.now ≡ drop 24 bytes.now)) (λ f. (refusal f).number ≡ first_no (message_questions instrument security bytes.now)) }
+    ensures { ReadsMessage instrument security bytes.now result }
 {
     let (raw, rest) = take_apart(bytes).ok_or(MessageFault::TooShort)?;
     let update = raw.judge(instrument, security)?;
