@@ -21,7 +21,7 @@ struct Fields {
 // A bid of the BMV for 500 at 24.5000 pesos.
 const BID: Fields = Fields {
     kind: b'm',
-    instrument: 7001,
+    instrument: INSTRUMENT,
     origin: b'M',
     volume: 500,
     price: 2_450_000_000,
@@ -145,59 +145,21 @@ fn too_short(rt: HostRuntime) {
 
 #[test]
 fn prices(rt: HostRuntime) {
-    assert_eq!(rt;
-        refused(Fields {
-            price: 100_500_000,
-            ..BID
-        }),
-        at(19, 14),
-        "10,050 is off the equity tick"
-    );
-    assert_eq!(rt;
-        refused(Fields {
-            price: 101_000_000,
-            ..BID
-        }),
-        None,
-        "10,100 is on it"
-    );
-    assert_eq!(rt;
-        refused(Fields {
-            price: 1_000_000_000_000,
-            ..BID
-        }),
-        None,
-        "the highest price"
-    );
-    assert_eq!(rt;
-        refused(Fields {
-            price: 1_000_001_000_000,
-            ..BID
-        }),
-        at(19, 14)
-    );
-    assert_eq!(rt; refused(Fields { price: 0, ..BID }), at(19, 14));
-    assert_eq!(rt;
-        refused(Fields {
-            price: -2_450_000_000,
-            ..BID
-        }),
-        at(19, 14)
-    );
-    assert_eq!(rt;
-        refused(Fields {
-            price: i64::MIN,
-            ..BID
-        }),
-        at(19, 14)
-    );
-    assert_eq!(rt;
-        refused(Fields {
-            price: i64::MAX,
-            ..BID
-        }),
-        at(19, 14)
-    );
+    let off_tick = at(19, 14);
+    // 10,050 is off the equity tick, 10,100 is on it; 100,000,000 is the highest price.
+    let told = [
+        (100_500_000, off_tick),
+        (101_000_000, None),
+        (1_000_000_000_000, None),
+        (1_000_001_000_000, off_tick),
+        (0, off_tick),
+        (-2_450_000_000, off_tick),
+        (i64::MIN, off_tick),
+        (i64::MAX, off_tick),
+    ];
+    for (price, expected) in told {
+        assert_eq!(rt; refused(Fields { price, ..BID }), expected, "{price}");
+    }
 }
 
 #[test]
