@@ -16,6 +16,7 @@ pub enum MessageFault {
 }
 
 // The refusal's number, and the offset of the field that it is about.
+// A table of its own enum: with those of the other faults it shares only the making of a `Refusal`.
 impl From<MessageFault> for Refusal {
     ghost from_gives = { λ fault result. result ≡ refusal fault };
 

@@ -18,6 +18,7 @@ pub enum Origin {
 }
 
 // The exchange that a message's letter names.
+// Another table of letters than a side's, with another error: no twin, since the two share no row.
 impl TryFrom<u8> for Origin {
     type Error = MessageFault;
 

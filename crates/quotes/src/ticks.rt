@@ -57,7 +57,7 @@ impl TickRow {
     fn has(&self, price: u32) -> bool
         ensures { result ≡ steps_to self.now.lowest self.now.highest self.now.step price }
     {
-        self.lowest <= price && price <= self.highest && (price - self.lowest) % self.step == 0
+        (self.lowest..=self.highest).contains(&price) && (price - self.lowest) % self.step == 0
     }
 }
 
