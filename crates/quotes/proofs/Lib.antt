@@ -1,1 +1,2 @@
+mod Best
 mod Ticked

@@ -1,5 +1,5 @@
 -- The four quotes, the best bid and offer, and the midpoint.
-use Rattle.std.specs.Prelude.{◌≡◌, ℕ, ◌+◌, ◌/◌, min, max, Bool, true, ◌&&◌, List, [], ◌∷◌, ℤ, Some, None, Option, slice_index_or, IsSomeAnd}
+use Rattle.std.specs.Prelude.{◌≡◌, ℕ, ◌+◌, ◌/◌, min, max, Bool, true, ◌&&◌, List, [], ◌∷◌, ℤ, Some, None, Option, slice_index_or}
 use Rattle.base.specs.declared.Side.{Side}
 use Rattle.base.specs.declared.Side.TheVariants.{Buy, Sell}
 use Rattle.base.specs.Price.{price_in_range}
@@ -43,12 +43,6 @@ abbrev pub best : (ℕ → ℕ → ℕ) → Option ℕ → Option ℕ → Option
 best pick None q = q
 best pick (Some p) None = Some p
 best pick (Some p) (Some q) = Some (pick p q)
-
--- what a choice between two quotes may give, where `Picks p q r` says that of prices p and q it may choose r
-abbrev pub IsBest : (ℕ → ℕ → ℕ → Type 0) → Option ℕ → Option ℕ → Option ℕ → Type 0
-IsBest Picks None q r = r ≡ q
-IsBest Picks (Some p) None r = r ≡ Some p
-IsBest Picks (Some p) (Some q) r = IsSomeAnd r (Picks p q)
 
 abbrev pub highest_bid : Rows → Option ℕ
 highest_bid rows = best max (standing rows Bmv Buy) (standing rows Biva Buy)

@@ -1,7 +1,7 @@
 // The board: the four quotes of one instrument, and the midpoint between the best of them.
 ghost use Rattle.std.specs.Prelude.{◌≡◌, true, IfSome};
 ghost use Rattle.quotes.specs.declared.ticks.SecurityType.{SecurityType};
-ghost use Rattle.quotes.specs.Board.{no_quotes, standing, laid, highest_bid, lowest_offer, midpoint, ticked, all_ticked, IsBest, Exact};
+ghost use Rattle.quotes.specs.Board.{no_quotes, standing, laid, highest_bid, lowest_offer, midpoint, ticked, all_ticked, Exact};
 
 use crate::fault::MessageFault;
 use crate::message::{Origin, QuoteUpdate, read_message};
@@ -31,17 +31,6 @@ fn with_quote(rows: [[Option<u32>; 2]; 2], update: QuoteUpdate) -> [[Option<u32>
     }
 }
 
-// Of two quotes the one that `pick` chooses where both stand; else the one that stands.
-fn best<F: FnOnce(u32, u32) -> u32>(a: Option<u32>, b: Option<u32>, pick: F) -> Option<u32>
-    requires { F.IsAlwaysCallable pick }
-    ensures { IsBest (F.post pick) a b result }
-{
-    match (a, b) {
-        (Some(p), Some(q)) => Some(pick(p, q)),
-        _ => a.or(b),
-    }
-}
-
 impl Quotes {
     // No quote stands.
     fn none(security: SecurityType) -> Quotes
@@ -64,13 +53,13 @@ impl Quotes {
         }
     }
 
-    // The highest bid that stands. It and `offer` share `best`: only the column and the choice differ.
+    // The highest bid that stands. It and `offer` differ in the column and the choice alone: nothing is left to share.
     pub fn bid(&self) -> Option<u32>
         ensures value { result ≡ highest_bid self.now.rows }
         ensures sound { ticked self.now.security result ≡ true }
     {
         let [[bmv, _], [biva, _]] = self.rows;
-        best(bmv, biva, u32::max)
+        [bmv, biva].into_iter().flatten().max()
     }
 
     // The lowest offer that stands.
@@ -79,7 +68,7 @@ impl Quotes {
         ensures sound { ticked self.now.security result ≡ true }
     {
         let [[_, bmv], [_, biva]] = self.rows;
-        best(bmv, biva, u32::min)
+        [bmv, biva].into_iter().flatten().min()
     }
 
     // Half the sum of the highest bid and the lowest offer where both stand; none otherwise.
