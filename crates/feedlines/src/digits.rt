@@ -1,40 +1,14 @@
 // Messages written in hexadecimal digits.
-ghost use Rattle.std.specs.Prelude.{◌≡◌, ℕ, ◌<◌, List, length, IfSome, MatchOption};
-ghost use Rattle.feedlines.specs.Digits.{Spells, byte_of, digit_value};
+ghost use Rattle.std.specs.Prelude.{ℕ, List, MatchOption};
+ghost use Rattle.feedlines.specs.Digits.{Spells};
 
 use quotes::message::MESSAGE;
-
-// The value of a digit, in either case.
-// By ranges: `to_digit` answers a number of 32 bits, which would have to be narrowed again.
-fn digit_value(digit: u8) -> Option<u8>
-    ensures value { result ≡ digit_value digit }
-    ensures small { IfSome result (λ n. n < 16) }
-{
-    match digit {
-        b'0'..=b'9' => Some(digit - b'0'),
-        b'a'..=b'f' => Some(digit - b'a' + 10),
-        b'A'..=b'F' => Some(digit - b'A' + 10),
-        _ => None,
-    }
-}
-
-// The byte that two digits write.
-fn byte_of(high: u8, low: u8) -> Option<u8>
-    ensures { result ≡ byte_of high low }
-{
-    Some(digit_value(high)? * 16 + digit_value(low)?)
-}
 
 // The message that 48 digits write; none where they are not as many, or one is no digit.
 pub(crate) fn read_digits(digits: &[u8]) -> Option<[u8; MESSAGE]>
     ensures { MatchOption result ((bytes : List ℕ) → Spells digits.now bytes → ⊥) (λ bytes. Spells digits.now bytes) }
 {
     let mut message = [0; MESSAGE];
-    let mut rest = digits;
-    for byte in &mut message {
-        let ([high, low], behind) = rest.split_first_chunk::<2>()?;
-        *byte = byte_of(*high, *low)?;
-        rest = behind;
-    }
-    rest.is_empty().then_some(message)
+    hex::decode_to_slice(digits, &mut message).ok()?;
+    Some(message)
 }
