@@ -11,6 +11,7 @@ use quotes::board::QuoteBoard;
 
 // Takes the message at the front of the bytes: lays it on a copy of the quotes, puts the copy's midpoint in force, and
 // only then replaces the quotes by the copy. Answers how many fills that made, and the bytes behind the message.
+// The quotes and the book are no one struct, for they have two owners: a desk has the quotes, a day has the book.
 pub fn feed<'b, O: Order, P: Priority>(
     board: &mut QuoteBoard,
     book: &mut OpenBook<'_, O, P>,

@@ -30,7 +30,7 @@ impl From<BookFault> for QuoteFault {
     }
 }
 
-// The number of the fault inside is passed on; the layer is the quotes', at place 0.
+// The number of the fault inside is passed on; the layer is the quotes', at place 0. No twin of the other layers': a table of its own enum.
 impl From<QuoteFault> for Refusal {
     ghost from_gives = { λ fault told. told ≡ refusal fault };
 

@@ -32,7 +32,7 @@ pub struct LineFault {
     pub reason: LineReason,
 }
 
-// The number of the book or of the quotes is passed on; the place is the line's number.
+// The number of the book or of the quotes is passed on; the place is the line's number. No twin of the other layers': a table of its own enum.
 impl From<LineFault> for Refusal {
     ghost from_gives = { λ fault told. told ≡ refusal fault };
 
