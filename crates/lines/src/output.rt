@@ -4,7 +4,7 @@ ghost use Rattle.lines.specs.Output.{line_text};
 
 use crate::fault::LineFault;
 use base::Refusal;
-use orders::trade::{Fill, Party};
+use orders::trade::Fill;
 use std::fmt;
 
 #[derive(Clone, Copy, PartialEq, Eq, Debug)]
@@ -26,23 +26,12 @@ impl fmt::Display for OutputLine {
 
     fn fmt<W: fmt::Write>(&self, f: &mut fmt::Formatter<W>) -> fmt::Result {
         match *self {
-            OutputLine::Fill(
-                Fill {
-                    price,
-                    volume,
-                    buyer: Party {
-                        house: buy_house,
-                        folio: buy_folio,
-                    },
-                    seller: Party {
-                        house: sell_house,
-                        folio: sell_folio,
-                    },
-                },
-            ) => {
+            OutputLine::Fill(fill) => {
+                let (buyer, seller) = (fill.buyer, fill.seller);
                 write!(
                     f,
-                    "F {price} {volume} {buy_folio} {sell_folio} {buy_house} {sell_house}"
+                    "F {} {} {} {} {} {}",
+                    fill.price, fill.volume, buyer.folio, seller.folio, buyer.house, seller.house
                 )
             }
             OutputLine::Cancel { folio, volume } => write!(f, "K {folio} {volume}"),

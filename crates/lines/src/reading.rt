@@ -49,6 +49,7 @@ fn read_cross(fields: &[u8]) -> Option<Call<MidpointOrder>>
 }
 
 // What stands behind `P`: a price, or a dash for none.
+// A pattern for the dash: `fields == b" -"` is refused (a slice is not compared with an array), and `.as_slice()` makes it no plainer.
 fn read_price(fields: &[u8]) -> Option<Call<MidpointOrder>>
     ensures { ReadsAs (codes "P" ++ fields.now) result }
 {

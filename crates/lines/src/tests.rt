@@ -127,31 +127,21 @@ fn writes_each_line(rt: HostRuntime) -> Result<(), Fail> {
     Ok(())
 }
 
+fn refused(number: u32, place: u64) -> Refusal {
+    Refusal {
+        number,
+        layer: Layer::Line,
+        place,
+    }
+}
+
 #[test]
 fn tells_what_a_refusal_is_about(rt: HostRuntime) {
-    assert_eq!(rt;
-        Refusal::from(LineReason::NoForm.at(3)),
-        Refusal {
-            number: 27,
-            layer: Layer::Line,
-            place: 3,
-        }
-    );
-    assert_eq!(rt;
-        Refusal::from(unknown_folio()),
-        Refusal {
-            number: 8,
-            layer: Layer::Line,
-            place: 9,
-        }
-    );
+    assert_eq!(rt; Refusal::from(LineReason::NoForm.at(3)), refused(27, 3));
+    assert_eq!(rt; Refusal::from(unknown_folio()), refused(8, 9));
     let too_short = QuoteFault::from(MessageFault::TooShort);
     assert_eq!(rt;
         Refusal::from(LineReason::Quotes(too_short).at(4)),
-        Refusal {
-            number: 13,
-            layer: Layer::Line,
-            place: 4,
-        }
+        refused(13, 4)
     );
 }
