@@ -2,9 +2,9 @@
 ghost use Rattle.std.specs.Prelude.{◌≡◌, ◌&&◌, IfOk, Some, ◌==◌};
 ghost use Rattle.orders.specs.Limits.{volume_in_range};
 ghost use Rattle.rules.specs.Calls.{TakesOut};
-ghost use Rattle.rules.specs.Questions.{capacity_of, cancel_questions, questions};
+ghost use Rattle.rules.specs.Questions.{capacity_of, cancel_questions, questions, party_questions};
 ghost use Rattle.rules.specs.declared.call.Call.TheVariants.{Enter, Cancel, Price, Cross};
-ghost use Rattle.book.specs.Asked.{Asked, party_questions};
+ghost use Rattle.book.specs.Asked.{Asked};
 ghost use Rattle.book.specs.View.{places, view};
 
 use crate::open::{CAPACITY, OpenBook};

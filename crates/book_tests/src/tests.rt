@@ -42,11 +42,6 @@ fn fill(price: u32, volume: u32, buyer: u32, seller: u32) -> Fill {
     }
 }
 
-// What stands in a table before any order does.
-fn nothing() -> ClosingOrder {
-    order(Side::Buy, 0, 0, 0, Quantity::Partial)
-}
-
 // Makes the calls on a new book over the table and closes it: how many fills that made, and how many orders are listed.
 fn run(
     table: &mut [ClosingOrder],
@@ -89,7 +84,7 @@ fn a_closing_day(rt: HostRuntime) {
     let mut tape = [Fill::default(); 16];
     let mut list = [Unfilled::default(); 4];
     let ran = run(
-        &mut [nothing(); 4],
+        &mut [ClosingOrder::default(); 4],
         &closing_calls(),
         &mut replies,
         &mut tape,
@@ -135,7 +130,7 @@ fn arrival_comes_first(rt: HostRuntime) {
     ];
     let mut tape = [Fill::default(); 4];
     let (fills, _) = run(
-        &mut [nothing(); 4],
+        &mut [ClosingOrder::default(); 4],
         &calls,
         &mut [UNANSWERED; 4],
         &mut tape,
@@ -151,7 +146,7 @@ fn arrival_comes_first(rt: HostRuntime) {
 fn too_few_replies(rt: HostRuntime) {
     let calls = [Call::Price(Some(100)), Call::Price(None)];
     let (fills, _) = run(
-        &mut [nothing()],
+        &mut [ClosingOrder::default()],
         &calls,
         &mut [UNANSWERED],
         &mut [Fill::default()],

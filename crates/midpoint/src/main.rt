@@ -34,7 +34,7 @@ fn run(rt: &HostRuntime, mut board: QuoteBoard) -> anyhow::Result<()> {
     // Room for one byte more than a message has, so that the vector doesn't grow when its end is looked for.
     let mut message = Vec::with_capacity(rt.alloc(), MESSAGE + 1)?;
     let mut accepted = 0u64;
-    // Every function has to end, and nothing says that an input does.
+    // More messages than ever come: a loop with no end would want leave to wait for ever.
     for _ in 0..u64::MAX {
         message.clear();
         conversation
