@@ -6,8 +6,7 @@ use lines::fault::LineFault;
 use orders::trade::Fill;
 use session::apply::{InputLine, LineAnswer, MidpointBook};
 
-// A trait and no closure, since a public function asks nothing of its callers: what a closure may be called on, and that
-// it keeps the places, `run_lines` would have to require.
+// A trait and no closure: that every call keeps the table's places is a law of each desk, which `run_lines` would otherwise have to ask of its callers.
 pub trait Desk {
     // Applies one line, or refuses it at its number. The fills that it makes stand at the tape's front. The book keeps
     // the places of its table, so that at the end of the day a list of as many places holds all that is left.

@@ -3,6 +3,7 @@ ghost use Rattle.std.specs.Prelude.{◌≤◌, length};
 ghost use Rattle.book.specs.Closed.{resting_orders};
 
 use book::closed::{ClosedBook, Unfilled};
+use book::open::CAPACITY;
 use kinds::midpoint::MidpointOrder;
 use lines::fault::LineFault;
 use lines::output::OutputLine;
@@ -12,11 +13,8 @@ use session::apply::LineAnswer;
 use std::io;
 use std::io::{BufWriter, Write};
 
-// Places of the table and of the tape.
-pub(crate) const PLACES: usize = 512;
-
-// A line for each fill at the tape's front. As a slice, `&tape[..fills]`, they would want the fact that there are as many,
-// which no desk promises.
+// A line for each fill at the tape's front.
+// No plainer as `&tape[..fills]`: that there are as many would be one law more of each desk, told on through four contracts.
 fn write_fills<W: Write + Drop>(
     output: &mut BufWriter<W>,
     tape: &[Fill],
@@ -29,6 +27,7 @@ fn write_fills<W: Write + Drop>(
 }
 
 // The lines of an answer: a changed midpoint and the fills, a cancelled order, or a refusal.
+// No method of `Day`, which is no plainer: it would bring the desk and the book along, and what is written knows neither.
 pub(crate) fn write_answer<W: Write + Drop>(
     output: &mut BufWriter<W>,
     answer: Result<LineAnswer, LineFault>,
@@ -62,7 +61,7 @@ pub(crate) fn write_unfilled<W: Write + Drop>(
 ) -> io::Result<()>
     requires { length (resting_orders book.now) ≤ 512 }
 {
-    let mut list = [Unfilled::default(); PLACES];
+    let mut list = [Unfilled::default(); CAPACITY];
     let count = book.unfilled(&mut list).unwrap();
     for order in &list[..count] {
         let (folio, left) = (order.folio, order.left);

@@ -3,8 +3,8 @@ ghost use Rattle.std.specs.Prelude.{◌≡◌};
 ghost use Rattle.book.specs.View.{places};
 
 use crate::desk::Desk;
-use crate::output::{PLACES, write_answer, write_unfilled};
-use book::open::OpenBook;
+use crate::output::{write_answer, write_unfilled};
+use book::open::{CAPACITY, OpenBook};
 use kinds::midpoint::MidpointOrder;
 use orders::trade::Fill;
 use session::apply::{InputLine, MidpointBook};
@@ -41,7 +41,7 @@ impl Input {
 struct Day<'d, 't, D, W: Write + Drop> {
     desk: &'d mut D,
     book: MidpointBook<'t>,
-    tape: [Fill; PLACES],
+    tape: [Fill; CAPACITY],
     output: BufWriter<W>,
     ghost whole: { places book ≡ 512 },
 }
@@ -87,12 +87,12 @@ impl<D: Desk, W: Write + Drop> Day<'_, '_, D, W> {
 // The book is closed and ended also where input or output fails; nothing is listed then.
 pub fn run_lines<D: Desk>(desk: &mut D, rt: &HostRuntime) -> io::Result<()> {
     let output = BufWriter::new(rt.alloc(), rt.stdout())?;
-    let mut table = [MidpointOrder::default(); PLACES];
+    let mut table = [MidpointOrder::default(); CAPACITY];
     let book = OpenBook::new(&mut table);
     let mut day = Day {
         desk,
         book,
-        tape: [Fill::default(); PLACES],
+        tape: [Fill::default(); CAPACITY],
         output,
     };
     let mut source = rt.stdin();

@@ -8,6 +8,7 @@ use Rattle.kinds.specs.Midpoint.{midpoint_kind}
 use Rattle.kinds.specs.Priorities.{volume_ranking}
 use Rattle.lines.specs.declared.fault.LineFault.{LineFault}
 use Rattle.lines.specs.declared.fault.LineReason.TheVariants.{Quotes}
+use Rattle.lines.specs.Faults.{fault_at}
 use Rattle.orders.specs.declared.trade.Fill.{Fill}
 use Rattle.quotes.specs.declared.board.QuoteBoard.{QuoteBoard}
 use Rattle.quotes.specs.Board.{midpoint}
@@ -21,7 +22,7 @@ use Rattle.feedlines.specs.Lines.{WritesCall, WritesMessage}
 -- line's number
 abbrev pub quote_reply : ℕ → Option ℕ → Option ℕ → Result (ℕ × Bor (List ℕ)) QuoteFault → Result LineAnswer LineFault
 quote_reply number before after (Ok a) = Ok (Quoted before after a.0)
-quote_reply number before after (Err fault) = Err (record { line = number; reason = Quotes fault })
+quote_reply number before after (Err fault) = Err (fault_at number (Quotes fault))
 
 -- the message was fed, and the line's answer is that of the feed call
 pub record FedLine (bytes : List ℕ) (number : ℕ) (board board_after : QuoteBoard) (book book_after : MidpointBook) (tape tape_after : List Fill) (r : Result LineAnswer LineFault) : Type 0 where

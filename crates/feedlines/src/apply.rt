@@ -10,18 +10,20 @@ use quotes::board::QuoteBoard;
 use session::apply::{InputLine, LineAnswer, MidpointBook, make_call};
 
 // Feeds the message of a line to the quotes and the book.
+// Board and book are no one struct: they have two owners, a desk and its day, and no call but a message's wants both.
 fn apply_message(
     board: &mut QuoteBoard,
     book: &mut MidpointBook<'_>,
     message: &[u8],
-    line: InputLine<'_>,
+    number: u64,
     tape: &mut [Fill],
 ) -> Result<LineAnswer, LineFault>
-    ensures { FedLine message.now line.entry.number board.old board.new book.old book.new tape.old tape.new result }
+    ensures { FedLine message.now number board.old board.new book.old book.new tape.old tape.new result }
 {
     let before = board.midpoint();
+    // Two steps, since the formatter breaks the one chain inside its closure.
     let fed = feed(board, book, message, tape);
-    let (fills, _) = fed.map_err(|fault| LineReason::Quotes(fault).at(line.number))?;
+    let (fills, _) = fed.map_err(|fault| LineReason::Quotes(fault).at(number))?;
     let midpoint = board.midpoint();
     Ok(LineAnswer::Quoted {
         before,
@@ -41,7 +43,7 @@ pub fn apply_feed_line(
     ensures { FeedApplies line.entry.bytes.now line.entry.number board.old board.new book.old book.new tape.old tape.new result }
 {
     match read_feed_line(line.bytes).ok_or(LineReason::NoForm.at(line.number))? {
-        FeedLine::Order(call) => make_call(book, call, line, tape),
-        FeedLine::Quote(message) => apply_message(board, book, &message, line, tape),
+        FeedLine::Order(call) => make_call(book, call, line.number, tape),
+        FeedLine::Quote(message) => apply_message(board, book, &message, line.number, tape),
     }
 }

@@ -83,11 +83,7 @@ fn is_better<P: Priority>(buy: &Header, sell: &Header, best: Option<Placed>) -> 
 
 // The first sell for one buy.
 // The orders and the price are two parameters: no fact ties them, and a struct of both would only be taken apart here.
-fn first_sell<O: Order, P: Priority>(
-    orders: &[O],
-    buy: &Shown<O>,
-    price: u32,
-) -> Option<Placed>
+fn first_sell<O: Order, P: Priority>(orders: &[O], buy: &Shown<O>, price: u32) -> Option<Placed>
     ensures { FirstSell O.kind P.ranking price orders.now buy.now.order.now result }
 {
     let mut best = None;

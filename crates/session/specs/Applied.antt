@@ -10,6 +10,7 @@ use Rattle.kinds.specs.Midpoint.{midpoint_kind}
 use Rattle.kinds.specs.Priorities.{volume_ranking}
 use Rattle.lines.specs.declared.fault.LineFault.{LineFault}
 use Rattle.lines.specs.declared.fault.LineReason.TheVariants.{NoForm, Book}
+use Rattle.lines.specs.Faults.{fault_at}
 use Rattle.lines.specs.Lines.{Readable, line_of}
 use Rattle.orders.specs.declared.trade.Fill.{Fill}
 use Rattle.rules.specs.declared.call.Answer.{Answer}
@@ -36,10 +37,10 @@ line_answer call (answer.Cancelled volume) = Cancelled (folio_of call) volume
 -- a fault of the book is passed on whole, at the line's number
 abbrev pub line_reply : ℕ → Call MidpointOrder → Result Answer BookFault → Result LineAnswer LineFault
 line_reply number call (Ok a) = Ok (line_answer call a)
-line_reply number call (Err fault) = Err (record { line = number; reason = Book fault })
+line_reply number call (Err fault) = Err (fault_at number (Book fault))
 
 abbrev pub no_form : ℕ → Result LineAnswer LineFault
-no_form number = Err (record { line = number; reason = NoForm })
+no_form number = Err (fault_at number NoForm)
 
 abbrev pub MidpointBook : Type 0
 MidpointBook = OpenBook MidpointOrder VolumePriority

@@ -38,8 +38,8 @@ pub enum LineAnswer {
     },
 }
 
-// The folio that a call names, if it names one. An Option is no plainer: no answer tells the 0 of a price, since only a
-// cancel's folio is answered, and a None would have to be answered somehow.
+// The folio that a call names, if it names one.
+// 0 for a price: the book's answer to a cancel doesn't repeat the folio, so only a cancel's is ever told.
 fn folio_of(call: &Call<MidpointOrder>) -> u32
     ensures { result ≡ folio_of call.now }
 {
@@ -65,18 +65,18 @@ fn answer_of(call: &Call<MidpointOrder>, answer: Answer) -> LineAnswer
 }
 
 // Makes the call of a line. A call that the book refuses is refused at the line's number, and alters nothing.
-// Book and tape are no one struct: the tape is lent anew to each call, so that a day can lend what is left of it.
+// Book and tape are no one struct: the tape is the caller's, lent to one call, and a struct would hold it as long as the book.
 pub fn make_call(
     book: &mut MidpointBook<'_>,
     call: Call<MidpointOrder>,
-    line: InputLine<'_>,
+    number: u64,
     tape: &mut [Fill],
 ) -> Result<LineAnswer, LineFault>
-    ensures { Makes call line.entry.number book.old tape.old book.new tape.new result }
+    ensures { Makes call number book.old tape.old book.new tape.new result }
 {
     let answer = book
         .apply(call, tape)
-        .map_err(|fault| LineReason::Book(fault).at(line.number))?;
+        .map_err(|fault| LineReason::Book(fault).at(number))?;
     Ok(answer_of(&call, answer))
 }
 
@@ -90,5 +90,5 @@ pub fn apply_line(
     ensures { Applies line.entry.bytes.now line.entry.number book.old tape.old book.new tape.new result }
 {
     let call = read_line(line.bytes).ok_or(LineReason::NoForm.at(line.number))?;
-    make_call(book, call, line, tape)
+    make_call(book, call, line.number, tape)
 }

@@ -8,6 +8,7 @@ use std::marker::Model;
 const KEPT: usize = 81;
 
 // A contract sees the bytes that are kept.
+// Copy went with the array, since an ArrayVec has none; Clone stays.
 #[derive(Clone, Drop)]
 pub struct LineBuffer {
     bytes: ArrayVec<u8, KEPT>,
