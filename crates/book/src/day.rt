@@ -51,7 +51,7 @@ pub fn run_day<'a, O: Order, P: Priority>(
         };
     }
     let mut used = 0;
-    // By place: after a zip with `iter_mut` the check knows nothing of what was written.
+    // By place, as `write_unfilled`, where a zip with `iter_mut` was tried: the check then knows nothing of what was written.
     for (place, call) in calls.iter().enumerate() {
         let reply = book.apply(*call, &mut tape[used..]);
         used += fills_told(&reply);

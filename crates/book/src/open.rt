@@ -26,7 +26,7 @@ pub struct OpenBook<'a, O, P> {
     ghost fits: { resting ≤ length table.now },
 }
 
-// Clauses relate before and after, as no invariant can; one name for all three (called, tape, table) fits 3 of 5 calls.
+// `called`, `tape` and `table` relate the book before and after a call, as no invariant can; one name for them fits 3 of 5.
 impl<'a, O: Order, P: Priority> OpenBook<'a, O, P> {
     ghost use Rattle.std.specs.Prelude.{ℕ, ◌-◌, [], OnSome};
     ghost use Rattle.rules.specs.declared.call.Call.TheVariants.{Enter, Cancel, Price, Cross};

@@ -10,6 +10,7 @@ use quotes::board::QuoteBoard;
 use quotes::ticks::SecurityType;
 
 // The BMV bids 245,000 for instrument 7001, and offers at 245,100; three bytes follow the offer.
+// The tests of quotes have a bid of their own: what stands in tests cannot be imported.
 #[rattlefmt::skip]
 const BID: [u8; 24] = [
     b'm', 0, 0, 0x1b, 0x59, b'M', 0, 0, 0, 0, 0, 0, 1, 0xf4,

@@ -10,7 +10,7 @@ use quotes::board::QuoteBoard;
 use session::apply::{InputLine, LineAnswer, MidpointBook, make_call};
 
 // Feeds the message of a line to the quotes and the book.
-// Board and book are no one struct: they have two owners, a desk and its day, and no call but a message's wants both.
+// Board and book are no one struct: they have two owners, a desk and its day, and of the calls only a message's uses both.
 fn apply_message(
     board: &mut QuoteBoard,
     book: &mut MidpointBook<'_>,

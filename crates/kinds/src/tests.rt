@@ -32,7 +32,7 @@ fn closing(quantity: Quantity) -> ClosingOrder {
     }
 }
 
-// The number of the kind's own question that is answered no, or 0.
+// The number of the kind's own question that is answered no, or 0, and no `Option`: tests keep their values.
 fn own_number<O: Order>(order: O) -> u32 {
     order.ask_own().err().map_or(0, OwnFault::number)
 }

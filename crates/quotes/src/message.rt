@@ -94,10 +94,11 @@ fn price_of(security: SecurityType, hundred_millionths: i64) -> Option<u32>
 }
 
 impl RawQuote {
-    // The questions of the fields, in their order.
+    // The questions of the fields, in their order. Instrument and type come apart here and below: the quotes keep the type.
     fn judge(&self, instrument: i32, security: SecurityType) -> Result<QuoteUpdate, MessageFault>
         ensures { Judges instrument security self.now result }
     {
+        // The letter by a pattern: a code form of this project.
         let 'm' = self.kind as char else {
             return Err(MessageFault::NotLastQuote);
         };

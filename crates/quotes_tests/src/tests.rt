@@ -2,24 +2,13 @@
 use base::{Layer, Refusal, Side};
 use quotes::board::QuoteBoard;
 use quotes::fault::MessageFault;
-use quotes::message::{MESSAGE, Origin, QuoteUpdate, read_message};
+use quotes::message::{MESSAGE, Origin, QuoteUpdate, RawQuote, read_message};
 use quotes::ticks::{SecurityType, UnknownType, is_on_tick};
 
 const INSTRUMENT: i32 = 7001;
 
-// What stands in a message, before it is bytes.
-#[derive(Clone, Copy)]
-struct Fields {
-    kind: u8,
-    instrument: i32,
-    origin: u8,
-    volume: i64,
-    price: i64,
-    side: u8,
-}
-
 // A bid of the BMV for 500 at 24.5000 pesos.
-const BID: Fields = Fields {
+const BID: RawQuote = RawQuote {
     kind: b'm',
     instrument: INSTRUMENT,
     origin: b'M',
@@ -29,7 +18,7 @@ const BID: Fields = Fields {
 };
 
 #[rattlefmt::skip]
-fn bytes(f: Fields) -> [u8; MESSAGE] {
+fn bytes(f: RawQuote) -> [u8; MESSAGE] {
     let [i0, i1, i2, i3] = f.instrument.to_be_bytes();
     let [v0, v1, v2, v3, v4, v5, v6, v7] = f.volume.to_be_bytes();
     let [p0, p1, p2, p3, p4, p5, p6, p7] = f.price.to_be_bytes();
@@ -42,7 +31,7 @@ fn bytes(f: Fields) -> [u8; MESSAGE] {
 }
 
 // The refusal of a message, or nothing where it is accepted.
-fn refused(f: Fields) -> Option<Refusal> {
+fn refused(f: RawQuote) -> Option<Refusal> {
     let message = bytes(f);
     let read = read_message(&message, INSTRUMENT, SecurityType::Equity);
     read.err().map(Refusal::from)
@@ -57,7 +46,7 @@ fn at(number: u32, place: u64) -> Option<Refusal> {
 }
 
 // Every field from the third on is wrong here.
-const ALL_WRONG: Fields = Fields {
+const ALL_WRONG: RawQuote = RawQuote {
     kind: b'p',
     instrument: 7002,
     origin: b'B',
@@ -73,25 +62,25 @@ fn accepted(rt: HostRuntime) {
 
 #[test]
 fn each_question_alone(rt: HostRuntime) {
-    assert_eq!(rt; refused(Fields { kind: b'M', ..BID }), at(14, 0));
+    assert_eq!(rt; refused(RawQuote { kind: b'M', ..BID }), at(14, 0));
     assert_eq!(rt;
-        refused(Fields {
+        refused(RawQuote {
             instrument: -7001,
             ..BID
         }),
         at(15, 1)
     );
     assert_eq!(rt;
-        refused(Fields {
+        refused(RawQuote {
             origin: b'm',
             ..BID
         }),
         at(16, 5)
     );
-    assert_eq!(rt; refused(Fields { side: b'c', ..BID }), at(17, 22));
-    assert_eq!(rt; refused(Fields { volume: -1, ..BID }), at(18, 6));
+    assert_eq!(rt; refused(RawQuote { side: b'c', ..BID }), at(17, 22));
+    assert_eq!(rt; refused(RawQuote { volume: -1, ..BID }), at(18, 6));
     assert_eq!(rt;
-        refused(Fields {
+        refused(RawQuote {
             price: 2_450_000_001,
             ..BID
         }),
@@ -106,9 +95,9 @@ fn each_question_before_the_later_ones(rt: HostRuntime) {
     let origin = BID.origin;
     let side = BID.side;
     assert_eq!(rt; refused(ALL_WRONG), at(14, 0));
-    assert_eq!(rt; refused(Fields { kind, ..ALL_WRONG }), at(15, 1));
+    assert_eq!(rt; refused(RawQuote { kind, ..ALL_WRONG }), at(15, 1));
     assert_eq!(rt;
-        refused(Fields {
+        refused(RawQuote {
             kind,
             instrument,
             ..ALL_WRONG
@@ -116,7 +105,7 @@ fn each_question_before_the_later_ones(rt: HostRuntime) {
         at(16, 5)
     );
     assert_eq!(rt;
-        refused(Fields {
+        refused(RawQuote {
             kind,
             instrument,
             origin,
@@ -125,7 +114,7 @@ fn each_question_before_the_later_ones(rt: HostRuntime) {
         at(17, 22)
     );
     assert_eq!(rt;
-        refused(Fields {
+        refused(RawQuote {
             kind,
             instrument,
             origin,
@@ -158,14 +147,14 @@ fn prices(rt: HostRuntime) {
         (i64::MAX, off_tick),
     ];
     for (price, expected) in told {
-        assert_eq!(rt; refused(Fields { price, ..BID }), expected, "{price}");
+        assert_eq!(rt; refused(RawQuote { price, ..BID }), expected, "{price}");
     }
 }
 
 #[test]
 fn a_clearing_message_has_no_price(rt: HostRuntime) {
     assert_eq!(rt;
-        refused(Fields {
+        refused(RawQuote {
             volume: 0,
             price: -1,
             ..BID
@@ -173,7 +162,7 @@ fn a_clearing_message_has_no_price(rt: HostRuntime) {
         None
     );
     assert_eq!(rt;
-        refused(Fields {
+        refused(RawQuote {
             volume: i64::MIN,
             ..BID
         }),
@@ -242,7 +231,7 @@ fn words_and_letters(rt: HostRuntime) {
 fn midpoint_of_bid_and_offer(rt: HostRuntime) {
     let mut board = QuoteBoard::new(INSTRUMENT, SecurityType::Equity);
     let bid = bytes(BID);
-    let offer = bytes(Fields {
+    let offer = bytes(RawQuote {
         side: b'V',
         price: 2_451_000_000,
         ..BID

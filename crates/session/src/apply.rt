@@ -39,7 +39,7 @@ pub enum LineAnswer {
 }
 
 // The folio that a call names, if it names one.
-// 0 for a price: the book's answer to a cancel doesn't repeat the folio, so only a cancel's is ever told.
+// 0 for a price, and never told, since only a cancel's folio is: an `Option` would only be opened again with this 0.
 fn folio_of(call: &Call<MidpointOrder>) -> u32
     ensures { result ≡ folio_of call.now }
 {

@@ -11,7 +11,7 @@ use base::is_price;
 use orders::limits::{is_folio, is_house, is_volume};
 use orders::trade::{Fill, Party};
 
-// Who traded, or what was traded.
+// Who traded, or what was traded. An enum and no closures: each of the two answers several questions that belong together.
 #[derive(Clone, Copy)]
 pub(crate) enum Entry {
     Who,

@@ -59,11 +59,11 @@ fn at(number: u32, place: u64) -> Option<Refusal> {
     })
 }
 
+// `reading` and `writing` below have one size each: as a parameter it would ask for a bound, which is no plainer.
 fn refused(answer: Result<usize, BlockFault>) -> Option<Refusal> {
     answer.err().map(Refusal::from)
 }
 
-// Reading and writing each at one size: were it a parameter, each helper would ask for a bound on it, which is no plainer.
 // What reading answers to bytes, with places for three fills; the list then holds what it held where it is refused.
 fn reading(rt: &impl Abort, bytes: &[u8]) -> Option<Refusal> {
     let mut list = [OTHER; 3];

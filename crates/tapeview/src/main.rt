@@ -19,7 +19,7 @@ fn main(rt: HostRuntime) -> io::Result<()> {
     let mut output = BufWriter::new(rt.alloc(), rt.stdout())?;
     match read_block(&bytes, &mut fills) {
         Ok(count) => {
-            // As in a day of lines: a function for both would be a public one that can promise nothing of what is written.
+            // As in a day of lines: a public function for both would want a contract, and none can tell what is written.
             for fill in &fills[..count] {
                 writeln!(output, "{}", OutputLine::Fill(*fill))?;
             }
