@@ -40,12 +40,13 @@ pub(crate) fn write_answer<W: Write + Drop>(
         }
         Ok(
             LineAnswer::Quoted {
-                before,
+                before: _,
                 midpoint,
+                changed,
                 fills,
             },
         ) => {
-            if before != midpoint {
+            if changed {
                 writeln!(output, "{}", Answer(Ok(midpoint)))?;
             }
             write_fills(output, tape, fills)

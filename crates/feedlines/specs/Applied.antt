@@ -1,5 +1,5 @@
 -- What a line does to the quotes and to the book.
-use Rattle.std.specs.Prelude.{◌≡◌, ℕ, ◌⊎◌, List, Ok, Err, Option, Result}
+use Rattle.std.specs.Prelude.{◌≡◌, ℕ, Bool, true, false, not, ◌⊎◌, List, Some, None, Ok, Err, Option, Result, ◌==◌}
 use Rattle.std.specs.Borrow.{Bor}
 use Rattle.feed.specs.declared.fault.QuoteFault.{QuoteFault}
 use Rattle.feed.specs.Feeding.{Feeds}
@@ -18,10 +18,17 @@ use Rattle.session.specs.declared.apply.LineAnswer.TheVariants.{Quoted}
 use Rattle.session.specs.Applied.{Makes, MidpointBook, no_form}
 use Rattle.feedlines.specs.Lines.{WritesCall, WritesMessage}
 
--- the answer of a message's line tells the midpoints before and after it; a fault of the quotes is passed on whole, at the
--- line's number
+-- another price, or none where there was one, or one where there was none
+abbrev pub differs : Option ℕ → Option ℕ → Bool
+differs None None = false
+differs None (Some b) = true
+differs (Some a) None = true
+differs (Some a) (Some b) = not (a == b)
+
+-- the answer of a message's line tells the midpoints before and after it, and whether they differ; a fault of the quotes is
+-- passed on whole, at the line's number
 abbrev pub quote_reply : ℕ → Option ℕ → Option ℕ → Result (ℕ × Bor (List ℕ)) QuoteFault → Result LineAnswer LineFault
-quote_reply number before after (Ok a) = Ok (Quoted before after a.0)
+quote_reply number before after (Ok a) = Ok (Quoted before after (differs before after) a.0)
 quote_reply number before after (Err fault) = Err (fault_at number (Quotes fault))
 
 -- the message was fed, and the line's answer is that of the feed call

@@ -28,6 +28,7 @@ fn apply_message(
     Ok(LineAnswer::Quoted {
         before,
         midpoint,
+        changed: before != midpoint,
         fills,
     })
 }

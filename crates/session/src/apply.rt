@@ -30,10 +30,11 @@ pub enum LineAnswer {
         folio: u32,
         volume: u32,
     },
-    // The midpoints before and after a quote, and how many fills stand at the tape's front.
+    // The midpoints before and after a quote, whether they differ, and how many fills stand at the tape's front.
     Quoted {
         before: Option<u32>,
         midpoint: Option<u32>,
+        changed: bool,
         fills: usize,
     },
 }
