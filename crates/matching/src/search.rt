@@ -8,27 +8,27 @@ use orders::order::Order;
 use orders::priority::Priority;
 use orders::trade::Header;
 
-// An order with what it shows, which is read once.
+// An order with what it shows, which is read once. A copy: the loop over the sells then reads nothing of the buy again.
 #[derive(Drop)]
-struct Shown<'a, O: Order> {
-    order: &'a O,
+struct Shown<O: Order> {
+    order: O,
     header: Header,
-    ghost as_shown: { header ≡ O.kind.header order.now },
+    ghost as_shown: { header ≡ O.kind.header order },
 }
 
-impl<'a, O: Order> Shown<'a, O> {
-    fn of(order: &'a O) -> Self
-        ensures { result.order.now ≡ order.now }
+impl<O: Order> Shown<O> {
+    fn of(order: &O) -> Self
+        ensures { result.order ≡ order.now }
     {
         Shown {
-            order,
+            order: *order,
             header: order.header(),
         }
     }
 
     // Can this order, as the buy, trade with the other?
     fn can_trade(&self, sell: &Shown<O>, price: u32) -> bool
-        ensures { result ≡ can_trade O.kind price self.now.order.now sell.now.order.now }
+        ensures { result ≡ can_trade O.kind price self.now.order sell.now.order }
     {
         match (self.header.side, sell.header.side) {
             (Side::Buy, Side::Sell) => {
@@ -84,7 +84,7 @@ fn is_better<P: Priority>(buy: &Header, sell: &Header, best: Option<Placed>) -> 
 // The first sell for one buy.
 // The orders and the price are two parameters: no fact ties them, and a struct of both would only be taken apart here.
 fn first_sell<O: Order, P: Priority>(orders: &[O], buy: &Shown<O>, price: u32) -> Option<Placed>
-    ensures { FirstSell O.kind P.ranking price orders.now buy.now.order.now result }
+    ensures { FirstSell O.kind P.ranking price orders.now buy.now.order result }
 {
     let mut best = None;
     for (place, order) in orders.iter().enumerate() {

@@ -9,7 +9,7 @@ pub loop-place-preserved : goal.loop-place-preserved
 loop-place-preserved g c =
     let kind = g.O.Order.kind in
     let rank = g.P.Priority.ranking in
-    let buy = c.args.buy.now.order.now in
+    let buy = c.args.buy.now.order in
     let x = c.index-orders-place.result in
     let i = c.loop-place.place in
     let best = c.loop-place.best in
