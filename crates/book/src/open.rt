@@ -28,7 +28,7 @@ pub struct OpenBook<'a, O, P> {
 
 // `called`, `tape` and `table` relate the book before and after a call, as no invariant can; one name for them fits 3 of 5.
 impl<'a, O: Order, P: Priority> OpenBook<'a, O, P> {
-    ghost use Rattle.std.specs.Prelude.{ℕ, ◌-◌, [], OnSome};
+    ghost use Rattle.std.specs.Prelude.{ℕ, ◌-◌, [], OnSome, OnErr};
     ghost use Rattle.rules.specs.declared.call.Call.TheVariants.{Enter, Cancel, Price, Cross};
     ghost use Rattle.rules.specs.Day.{Day, new_state};
     ghost use Rattle.book.specs.Called.{Called, FillsAtFront, TapeAfter, cancel_outcome, fills_outcome, outcome};
@@ -73,6 +73,7 @@ impl<'a, O: Order, P: Priority> OpenBook<'a, O, P> {
         ensures called { Called O.kind P.ranking self.old (Enter order) (length tape.old) (fills_outcome result tape.new) self.new }
         ensures tape { FillsAtFront result tape.old tape.new }
         ensures table { SameTable self.old self.new }
+        ensures refused { OnErr result (self.new ≡ self.old) }
     {
         self.ask_entry(&order, tape.len())?;
         self.highest = order.header().party.folio;
@@ -86,6 +87,7 @@ impl<'a, O: Order, P: Priority> OpenBook<'a, O, P> {
     pub fn cancel(&mut self, party: Party) -> Result<u32, BookFault>
         ensures called { (tape : ℕ) → Called O.kind P.ranking self.old (Cancel party) tape (cancel_outcome result) self.new }
         ensures table { SameTable self.old self.new }
+        ensures refused { OnErr result (self.new ≡ self.old) }
     {
         let left = self.ask_cancel(party)?;
         self.resting = remove_folio(&mut self.table[..self.resting], party.folio);
@@ -97,6 +99,7 @@ impl<'a, O: Order, P: Priority> OpenBook<'a, O, P> {
         ensures called { Called O.kind P.ranking self.old (Price price) (length tape.old) (fills_outcome result tape.new) self.new }
         ensures tape { FillsAtFront result tape.old tape.new }
         ensures table { SameTable self.old self.new }
+        ensures refused { OnErr result (self.new ≡ self.old) }
     {
         self.ask_price(price, tape.len())?;
         self.price = price;
@@ -113,6 +116,7 @@ impl<'a, O: Order, P: Priority> OpenBook<'a, O, P> {
         ensures called { Called O.kind P.ranking self.old (Cross party volume) (length tape.old) (fills_outcome result tape.new) self.new }
         ensures tape { FillsAtFront result tape.old tape.new }
         ensures table { SameTable self.old self.new }
+        ensures refused { OnErr result (self.new ≡ self.old) }
     {
         let price = self.ask_cross(party, volume, tape.len())?;
         tape[0] = Fill {
@@ -132,6 +136,7 @@ impl<'a, O: Order, P: Priority> OpenBook<'a, O, P> {
         ensures called { Called O.kind P.ranking self.old call (length tape.old) (outcome result tape.new) self.new }
         ensures tape { TapeAfter result tape.old tape.new }
         ensures table { SameTable self.old self.new }
+        ensures refused { OnErr result (self.new ≡ self.old) }
         ensures day { (day : Day O) → Holds O.kind self.old day → GoesOn O.kind self.new (event P.ranking call (length tape.old) (outcome result tape.new)) day }
     {
         match call {

@@ -1,14 +1,14 @@
 -- What reading and writing answer, by what was asked.
-use Rattle.std.proofs.Common.{◌≡◌, ℕ, zero, suc, ◌+◌, ◌*◌, ◌<◌, ◌≤◌, Bool, true, not, List, [], ◌∷◌, ◌++◌, length, get_or, take, drop, is_some, sym, refl, ap, ◌∙◌, subst, arith}
+use Rattle.std.proofs.Common.{◌≡◌, ℕ, zero, suc, ◌+◌, ◌*◌, ◌<◌, ◌≤◌, Bool, true, false, cond, not, List, [], ◌∷◌, ◌++◌, length, get_or, take, drop, is_some, sym, refl, ap, ◌∙◌, subst, arith}
 use borrow.Rule.Slice.PartMut.{put_mid, post_of}
-use Rattle.std.specs.List.{flat_map}
+use Rattle.std.specs.List.{AllByRecursion as All, flat_map}
 use Rattle.std.proofs.lemmas.List.FromFn.{get_or-map-range_with_len, length-map-range_with_len}
 use Rattle.std.proofs.lemmas.List.{append_assoc, length-append, length-take-le, take_at}
 use Rattle.std.proofs.lemmas.Slice.{drop-append-drop, drop-put_mid, take-put_mid}
 use Rattle.std.proofs.lemmas.Bool.Decides.{nat_tests}
 use Rattle.std.proofs.lemmas.Bool.{and_from, and_parts}
 use Rattle.base.specs.Bytes.{bytes4, number4}
-use Rattle.base.specs.Questions.{first_no}
+use Rattle.base.specs.Questions.{Question, first_no}
 use Rattle.orders.specs.declared.trade.Fill.{Fill}
 use Rattle.tape.specs.Asked.{every, fills_in, first_bad, most_fills, read_questions, size_questions, what_in_range, who_in_range, write_questions}
 use Rattle.tape.specs.Block.{LaysOut, block, block_length, fill_at, what_entry, who_entry}
@@ -17,6 +17,15 @@ use Rattle.tape.specs.Read.{FillsRead, Sized}
 use Rattle.tape.specs.Written.{BlockWritten, ReadsBack}
 use Rattle.tape.proofs.Entries.{length_entries}
 use Rattle.tape.proofs.Laid.{Fits, block_lays_out, laid_fills, one_form, one_list}
+
+-- no question has the number 0
+abbrev pub Numbered : List Question → Type 0
+Numbered qs = All (λ q. 0 < q.number) qs
+
+-- behind questions that are all answered yes, the first no is that of the rest
+pub past : (qs rest : List Question) → Numbered qs → first_no qs ≡ 0 → first_no (qs ++ rest) ≡ first_no rest
+past [] rest numbered all = refl
+past (q ∷ qs) rest numbered all = elim q.answer as (λ t. cond t (first_no qs) q.number ≡ 0 → cond t (first_no (qs ++ rest)) q.number ≡ first_no rest) [ true ↦ λ e. past qs rest numbered.1 e | false ↦ λ e. absurd (omega (arith, e, numbered.0)) ] all
 
 -- bytes of the right sizes, with every entry in range, are read into any list that has room
 read_asked : (bs : List ℕ) (places : ℕ) → first_no (size_questions bs) ≡ 0 → every who_in_range (fills_in bs (number4 bs 0)) ≡ true → every what_in_range (fills_in bs (number4 bs 0)) ≡ true → number4 bs 0 ≤ places → first_no (read_questions bs places) ≡ 0

@@ -30,3 +30,11 @@ module _ (which : Entry) (count : ℕ) (fs : List Fill) where
   -- where no fill's entry is out of range, every one is in range
   pub every_good : ◌≡◌ {A = Result (Unit {0}) BlockFault} (Ok tt) (judged which fs count) → every (admits which) fs ≡ true
   every_good is = good (first_bad (admits which) 0 fs) is
+
+  all_pass : (o : Option ℕ) → not (is_some o) ≡ true → ◌≡◌ {A = Result (Unit {0}) BlockFault} (Ok tt) (at_first which count o)
+  all_pass None is = refl
+  all_pass (Some i) is = absurd (grind (arith, is))
+
+  -- and the other way round
+  pub judged_all_good : every (admits which) fs ≡ true → ◌≡◌ {A = Result (Unit {0}) BlockFault} (Ok tt) (judged which fs count)
+  judged_all_good is = all_pass (first_bad (admits which) 0 fs) is
