@@ -1,15 +1,13 @@
 -- From what the code did to what a call comes to.
-use Rattle.std.proofs.Common.{◌≡◌, ℕ, List, length, take, Some, None, filter, Option, sym, refl, ap, ◌∙◌}
+use Rattle.std.proofs.Common.{◌≡◌, ℕ, List, length, take, Some, None, Option, sym, refl, ap, ◌∙◌}
 use Rattle.base.specs.Questions.{first_no}
 use Rattle.law.proofs.Sweeps.{sweep_settles}
 use Rattle.orders.specs.declared.trade.Fill.{Fill}
-use Rattle.orders.specs.declared.trade.Party.{Party}
 use Rattle.orders.specs.Kind.{Kind}
 use Rattle.orders.specs.Ranking.{Ranking}
 use Rattle.rules.specs.declared.call.Call.{Call}
-use Rattle.rules.specs.declared.call.Call.TheVariants.{Cancel}
-use Rattle.rules.specs.Calls.{Makes, Swept, TakesOut, all_settled, between_orders, cancelled, filled, highest_after, other_folio, price_after, with_entered}
-use Rattle.rules.specs.Questions.{State, capacity_of, cancel_questions, questions}
+use Rattle.rules.specs.Calls.{Makes, Swept, all_settled, between_orders, filled, highest_after, price_after, with_entered}
+use Rattle.rules.specs.Questions.{State, capacity_of, questions}
 use Rattle.book.specs.declared.open.OpenBook.{OpenBook}
 use Rattle.book.specs.Called.{Called}
 use Rattle.book.specs.Swept.{SweptBook}
@@ -36,8 +34,3 @@ module _ {O P : Type 0} (kind : Kind O) (rank : Ranking) (before : OpenBook O P)
           right = (none, makes);
           state = same_state _ _ _ _ _ _ (swept_settles kind rank made.price (view made).resting (view after).resting told s.swept ∙ ap (all_settled kind told) rests ∙ ap (λ fs. all_settled kind fs (with_entered kind call (view before).resting)) (sym between)) (s.price ∙ price) (s.highest ∙ highest);
         }
-
-  -- a cancel takes the order out, and nothing else changes
-  pub taken_out : (p : Party) (left : ℕ) (after : OpenBook O P) → first_no (cancel_questions kind (view before) p) ≡ 0 → TakesOut kind (view before) (Cancel p) left → (view after).resting ≡ filter (other_folio kind p.folio) (view before).resting → after.price ≡ before.price → after.highest ≡ before.highest → (tape : ℕ) → Called kind rank before (Cancel p) tape (cancelled left) after
-  taken_out p left after none takes rests price highest tape =
-      record { right = (none, takes); state = same_state _ _ _ _ _ _ rests price highest }

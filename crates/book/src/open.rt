@@ -83,7 +83,6 @@ impl<'a, O: Order, P: Priority> OpenBook<'a, O, P> {
     }
 
     // Takes the house's order with the folio out. Answers the volume that it had left.
-    #[tactic(auto, using(crate::proofs::Made::taken_out))]
     pub fn cancel(&mut self, party: Party) -> Result<u32, BookFault>
         ensures called { (tape : ℕ) → Called O.kind P.ranking self.old (Cancel party) tape (cancel_outcome result) self.new }
         ensures table { SameTable self.old self.new }
