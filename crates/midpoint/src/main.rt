@@ -2,6 +2,8 @@
 // standard output.
 #![tactic(auto)]
 
+ghost use Rattle.std.specs.Prelude.{◌≤◌, IfOk};
+
 use arguments::run_on_board;
 use quotes::answer::Answer;
 use quotes::board::QuoteBoard;
@@ -10,48 +12,49 @@ use std::io;
 use std::io::{BufReader, BufWriter, Read, Write};
 use std::process::ExitCode;
 
-// Where messages come from and answers go.
-#[derive(Drop)]
-struct Conversation<R: Read + Drop, W: Write + Drop> {
-    input: BufReader<R>,
-    output: BufWriter<W>,
-}
-
-// All answers are written out before it waits for more input.
-impl<R: Read + Drop, W: Write + Drop> Read for Conversation<R, W> {
-    fn read(&mut self, buffer: &mut [u8]) -> io::Result<usize> {
-        if self.input.buffer().is_empty() {
-            self.output.flush()?;
+// Fills the buffer from the input, less at the input's end, and answers how many bytes it then holds.
+// All answers are written before it waits for more input.
+// No `take` and `read_to_end`: the library promises no bound on what they read where a reader can't tell what remains.
+fn next_message<R: Read, W: Write + Drop>(
+    input: &mut BufReader<R>,
+    output: &mut BufWriter<W>,
+    message: &mut [u8; MESSAGE],
+) -> io::Result<usize>
+    ensures { IfOk result (λ held. held ≤ 24) }
+{
+    let mut held = 0;
+    while held < MESSAGE {
+        if input.buffer().is_empty() {
+            output.flush()?;
         }
-        self.input.read(buffer)
+        let n = input.read(&mut message[held..MESSAGE])?;
+        if n == 0 {
+            break;
+        }
+        held += n;
     }
+    Ok(held)
 }
 
 fn run(rt: &HostRuntime, mut board: QuoteBoard) -> anyhow::Result<()> {
-    let input = BufReader::new(rt.alloc(), rt.stdin())?;
-    let output = BufWriter::new(rt.alloc(), rt.stdout())?;
-    let mut conversation = Conversation { input, output };
-    // Room for one byte more than a message has, so that the vector doesn't grow when its end is looked for.
-    let mut message = Vec::with_capacity(rt.alloc(), MESSAGE + 1)?;
+    let mut input = BufReader::new(rt.alloc(), rt.stdin())?;
+    let mut output = BufWriter::new(rt.alloc(), rt.stdout())?;
+    let mut message = [0; MESSAGE];
     let mut accepted = 0u64;
     // More messages than ever come: a loop with no end would want leave to wait for ever.
     for _ in 0..u64::MAX {
-        message.clear();
-        conversation
-            .by_ref()
-            .take(MESSAGE as u64)
-            .read_to_end(&mut message)?;
-        if message.is_empty() {
+        let held = next_message(&mut input, &mut output, &mut message)?;
+        if held == 0 {
             break;
         }
-        let answer = board.receive(&message);
+        let answer = board.receive(&message[..held]);
         if answer.is_ok() {
             accepted = accepted.saturating_add(1);
         }
-        writeln!(conversation.output, "{}", Answer(answer))?;
+        writeln!(output, "{}", Answer(answer))?;
     }
-    writeln!(conversation.output, "end {accepted}")?;
-    conversation.output.flush()?;
+    writeln!(output, "end {accepted}")?;
+    output.flush()?;
     Ok(())
 }
 
