@@ -63,7 +63,7 @@ impl<'a, O: Order, P: Priority> OpenBook<'a, O, P> {
         let Some(price) = self.price else {
             return 0;
         };
-        let swept = sweep::<O, P>(&mut self.table[..self.resting], price, tape).unwrap();
+        let swept = sweep::<O, P>(self.table, self.resting, price, tape).unwrap();
         self.resting = swept.resting;
         swept.fills
     }

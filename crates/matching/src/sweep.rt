@@ -1,5 +1,5 @@
 // The sweep: as long as some pair can trade, the first such pair makes a fill.
-ghost use Rattle.std.specs.Prelude.{◌≡◌, ◌≤◌, length, take};
+ghost use Rattle.std.specs.Prelude.{◌≡◌, ◌≤◌, length, take, drop};
 ghost use Rattle.rules.specs.Sweep.{after_fill, fill_of, settled};
 ghost use Rattle.matching.specs.Sweeping.{FillsFirst, SweepsTo};
 
@@ -70,7 +70,7 @@ fn fill_first<O: Order, P: Priority>(orders: &mut [O], price: u32) -> Option<(Fi
 
 // Sweeps the resting orders at a price. The fills stand at the tape's front in the order made, and what still rests at
 // the orders'. None, and nothing is altered, where the tape has fewer places than one less than rest.
-pub fn sweep<O: Order, P: Priority>(
+pub fn sweep_orders<O: Order, P: Priority>(
     orders: &mut [O],
     price: u32,
     tape: &mut [Fill],
@@ -89,4 +89,18 @@ pub fn sweep<O: Order, P: Priority>(
         resting = left;
     }
     Some(Swept { fills, resting })
+}
+
+// Sweeps the first orders of a table at a price; all of it, where it has no more. What stands behind them is not touched.
+pub fn sweep<O: Order, P: Priority>(
+    table: &mut [O],
+    resting: usize,
+    price: u32,
+    tape: &mut [Fill],
+) -> Option<Swept>
+    ensures swept { SweepsTo O.kind P.ranking price (take resting table.old) tape.old (take resting table.new) tape.new result }
+    ensures behind { drop resting table.new ≡ drop resting table.old }
+{
+    let rest = resting.min(table.len());
+    sweep_orders::<O, P>(&mut table[..rest], price, tape)
 }

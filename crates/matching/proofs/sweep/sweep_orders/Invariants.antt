@@ -1,5 +1,5 @@
 use Rattle.matching.proofs.Going.{Going}
-use Rattle.matching.proofs.sweep.sweep.Given as goal
+use Rattle.matching.proofs.sweep.sweep_orders.Given as goal
 
 abbrev pub invariant-loop-fill : goal.invariant-loop-fill
 invariant-loop-fill g l =

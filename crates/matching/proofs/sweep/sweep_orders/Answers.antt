@@ -1,6 +1,6 @@
 use Rattle.std.proofs.Common.{arith}
 use Rattle.matching.proofs.Going.{going_more, swept_in_place}
-use Rattle.matching.proofs.sweep.sweep.Goals as goal
+use Rattle.matching.proofs.sweep.sweep_orders.Goals as goal
 
 pub loop-fill-preserved : goal.loop-fill-preserved
 loop-fill-preserved g c =
