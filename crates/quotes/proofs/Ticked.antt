@@ -30,6 +30,10 @@ module _ (security : SecurityType) where
   best_ticked pick one (Some p) None h k = h
   best_ticked pick one (Some p) (Some q) h k = elim (one p q) [ inl e ↦ rw e h | inr e ↦ rw e k ]
 
+  -- so is the best of a side
+  pub side_ticked : (pick : ℕ → ℕ → ℕ) → ((p q : ℕ) → (pick p q ≡ p) ⊎ (pick p q ≡ q)) → (rows : Rows) → all_ticked security rows ≡ true → (side : Side) (q : Option ℕ) → q ≡ best pick (standing rows Bmv side) (standing rows Biva side) → ticked security q ≡ true
+  side_ticked pick one rows h side q is = rw is (best_ticked pick one _ _ (each rows h Bmv side) (each rows h Biva side))
+
   tick_price_ticked : (z : ℤ) → ticked security (tick_price security z) ≡ true
   tick_price_ticked (pos n) = grind arith
   tick_price_ticked (negsuc n) = refl

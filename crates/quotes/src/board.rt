@@ -59,7 +59,10 @@ impl Quotes {
         ensures sound { ticked self.now.security result ≡ true }
     {
         let [[bmv, _], [biva, _]] = self.rows;
-        [bmv, biva].into_iter().flatten().max()
+        match (bmv, biva) {
+            (Some(bmv), Some(biva)) => Some(bmv.max(biva)),
+            _ => bmv.or(biva),
+        }
     }
 
     // The lowest offer that stands.
@@ -68,7 +71,10 @@ impl Quotes {
         ensures sound { ticked self.now.security result ≡ true }
     {
         let [[_, bmv], [_, biva]] = self.rows;
-        [bmv, biva].into_iter().flatten().min()
+        match (bmv, biva) {
+            (Some(bmv), Some(biva)) => Some(bmv.min(biva)),
+            _ => bmv.or(biva),
+        }
     }
 
     // Half the sum of the highest bid and the lowest offer where both stand; none otherwise.
