@@ -34,6 +34,15 @@ pub Err-from_none : {T E : Type 0} (r : Result T E) → None ≡ result_ok r →
 Err-from_none (Ok y) e = absurd (none-some y e)
 Err-from_none (Err d) e = (d, refl)
 
+-- digits that were not parsed are no number's decimal
+pub not_parsed : {E : Type 0} (ds : List ℕ) (d : E) → AllDigits ds → ParsesUnsigned 32 10 ds (Err d) → (n : ℕ) → n < 2 ^ 32 → ds ≢ decimal n
+not_parsed {E} ds d all reads =
+    λ n small is.
+    let some = decimal_nonempty n (omega arith) in
+    let long = ap length is in
+    let worth : digits_value 10 ds ≡ n = ap (digits_value 10) is ∙ digits_value-decimal own n (omega arith) in
+    parse_digits own {E = E} 32 ds (Err d) reads all (omega arith, omega arith)
+
 -- digits that were parsed are their number's decimal, and others are no number's of 32 bits
 pub parsed : {E : Type 0} (ds : List ℕ) (r : Result ℕ E) → AllDigits ds → (1 < length ds → get_or ds 0 0 ≢ 48) → ParsesUnsigned 32 10 ds r → MatchOption (result_ok r) ((n : ℕ) → n < 2 ^ 32 → ds ≢ decimal n) (λ n. ds ≡ decimal n)
 parsed {E} ds (Ok n) all no_zero reads =
@@ -41,12 +50,7 @@ parsed {E} ds (Ok n) all no_zero reads =
     let alone : get_or ds 0 0 ≡ 48 → length ds ≡ 1 =
     λ zero. ⊎_elim (λ long. absurd (no_zero long zero)) (λ short. omega (arith, told.0.0)) (cases_lt 1 (length ds)) in
     sym (decimal-digits_value own ds all told.0.0 alone (omega (arith, told.0.1))) ∙ ap decimal (sym told.1)
-parsed {E} ds (Err d) all no_zero reads =
-    λ n small is.
-    let some = decimal_nonempty n (omega arith) in
-    let long = ap length is in
-    let worth : digits_value 10 ds ≡ n = ap (digits_value 10) is ∙ digits_value-decimal own n (omega arith) in
-    parse_digits own {E = E} 32 ds (Err d) reads all (omega arith, omega arith)
+parsed {E} ds (Err d) all no_zero reads = not_parsed ds d all reads
 
 -- the longest run of digits at the front is one, whatever stands behind it
 pub same_run : (ds es xs ys : List ℕ) → AllDigits ds → AllDigits es → NoDigitFirst xs → NoDigitFirst ys → ds ++ xs ≡ es ++ ys → (ds ≡ es) × (xs ≡ ys)

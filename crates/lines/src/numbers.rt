@@ -31,7 +31,11 @@ fn decimal_of(digits: &[u8]) -> Option<u32>
     if let [b'0', _, ..] = digits {
         return None;
     }
-    str::from_utf8(digits).ok()?.parse().ok()
+    // By cases: a slip in what is told of too large a number is then seen at the case, by what it tells.
+    match str::from_utf8(digits).ok()?.parse() {
+        Ok(n) => Some(n),
+        Err(_) => None,
+    }
 }
 
 // The number behind one space at the front, and what stands behind all its digits.
