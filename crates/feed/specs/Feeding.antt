@@ -1,5 +1,5 @@
 -- What a message does to the quotes and to the book.
-use Rattle.std.specs.Prelude.{◌≡◌, ℕ, ◌⊎◌, List, length, drop, Ok, Err, Result}
+use Rattle.std.specs.Prelude.{◌≡◌, ℕ, ◌⊎◌, List, length, drop, Ok, Err, OnErr, Result}
 use Rattle.std.specs.Borrow.{Bor}
 use Rattle.base.specs.Questions.{first_no}
 use Rattle.book.specs.declared.open.OpenBook.{OpenBook}
@@ -43,7 +43,8 @@ pub record TurnedAway {O P : Type 0} (bytes : List ℕ) (board board_after : Quo
   pub tape_same : tape_after ≡ tape
 
 -- the message is laid on a copy of the quotes, whose midpoint goes to the book by one price call: one more event of every
--- lawful day that the book holds. The copy replaces the quotes only where the book accepts it
+-- lawful day that the book holds. The copy replaces the quotes only where the book accepts it; a book that refuses is as it
+-- was
 pub record HandedOn {O P : Type 0} (kind : Kind O) (rank : Ranking) (bytes : List ℕ) (board board_after : QuoteBoard) (book book_after : OpenBook O P) (tape tape_after : List Fill) (r : Result (ℕ × Bor (List ℕ)) QuoteFault) : Type 0 where
   pub copy : Rows
   pub laid : Lays board.instrument board.quotes.security board.quotes.rows bytes copy
@@ -51,6 +52,7 @@ pub record HandedOn {O P : Type 0} (kind : Kind O) (rank : Ranking) (bytes : Lis
   pub called : Called kind rank book (Price (midpoint copy)) (length tape) (fills_outcome reply tape_after) book_after
   pub taped : FillsAtFront reply tape tape_after
   pub table : SameTable book book_after
+  pub refused : OnErr reply (book_after ≡ book)
   pub carried : (day : Day O) → Holds kind book day → GoesOn kind book_after (event rank (Price (midpoint copy)) (length tape) (fills_outcome reply tape_after)) day
   pub answered : PassedOn bytes reply r
   pub replaced : Replaced reply copy board board_after

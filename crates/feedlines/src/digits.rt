@@ -25,7 +25,7 @@ fn byte_of(high: u8, low: u8) -> Option<u8>
 }
 
 // The message that 48 digits write; none where they are not as many, or one is no digit.
-// By place, since two digits make a byte, and by functions of its own: the kit's `hex` has none that a slip in a digit shows.
+// By place: each byte takes two digits.
 pub(crate) fn read_digits(digits: &[u8]) -> Option<[u8; MESSAGE]>
     ensures { MatchOption result ((bytes : List ℕ) → Spells digits.now bytes → ⊥) (λ bytes. Spells digits.now bytes) }
 {

@@ -1,5 +1,5 @@
 -- What a line does to the book.
-use Rattle.std.specs.Prelude.{◌≡◌, ℕ, ◌⊎◌, List, length, Ok, Err, Result, ◌≢◌}
+use Rattle.std.specs.Prelude.{◌≡◌, ℕ, ◌⊎◌, List, length, Ok, Err, OnErr, Result, ◌≢◌}
 use Rattle.book.specs.declared.open.OpenBook.{OpenBook}
 use Rattle.book.specs.Called.{Called, TapeAfter, outcome}
 use Rattle.book.specs.Holding.{GoesOn, Holds, event}
@@ -52,14 +52,15 @@ pub record PassedOver (line : List ℕ) (number : ℕ) (before : MidpointBook) (
   pub book : after ≡ before
   pub tape_same : tape_after ≡ tape
 
--- a call was made for a line: the line's answer is the book's, and every lawful day that the book held goes on by this
--- call
+-- a call was made for a line: the line's answer is the book's, a book that refused it is as it was, and every lawful day that
+-- the book held goes on by this call
 pub record Makes (call : Call MidpointOrder) (number : ℕ) (before : MidpointBook) (tape : List Fill) (after : MidpointBook) (tape_after : List Fill) (r : Result LineAnswer LineFault) : Type 0 where
   pub reply : Result Answer BookFault
   pub answered : r ≡ line_reply number call reply
   pub called : Called midpoint_kind volume_ranking before call (length tape) (outcome reply tape_after) after
   pub taped : TapeAfter reply tape tape_after
   pub table : SameTable before after
+  pub refused : OnErr reply (after ≡ before)
   pub carried : (day : Day MidpointOrder) → Holds midpoint_kind before day → GoesOn midpoint_kind after (event volume_ranking call (length tape) (outcome reply tape_after)) day
 
 -- the line writes a call, which was made: the line's answer is the book's, and every lawful day that the book held goes
