@@ -1,4 +1,5 @@
-use Rattle.std.proofs.Common.{Ok, Err, refl, ap, ◌∙◌, inr}
+use Rattle.std.proofs.Common.{Ok, Err, refl, ap, ◌∙◌, inr, rules}
+use Rattle.std.proofs.lemmas.List.{take_rest}
 use Rattle.std.proofs.lemmas.Result.{err_from_is_err_and}
 use Rattle.feed.proofs.Handing.{handed_on}
 use Rattle.feed.proofs.call.feed.Goals as goal
@@ -26,6 +27,6 @@ returns g c =
     made.tape
     made.table
     made.refused
-    (refl, laid.2)
+    (refl, search (rules, take_rest))
     (is.0, ap (λ q. q.security) is.1 ∙ laid.0, ap (λ q. q.rows) is.1)
     )
