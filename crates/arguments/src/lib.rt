@@ -35,6 +35,18 @@ pub fn refuse_arguments(rt: &HostRuntime, program: &str) -> anyhow::Result<ExitC
     Ok(ExitCode::FAILURE)
 }
 
+// Runs on the board. A status tells that it ran to its end.
+fn run_on<F: FnOnce(QuoteBoard) -> anyhow::Result<()>>(
+    board: QuoteBoard,
+    run: F,
+) -> anyhow::Result<ExitCode>
+    requires { F.IsAlwaysCallable run }
+    ensures { IfOk result (λ code. F.post run board (Ok tt)) }
+{
+    run(board)?;
+    Ok(ExitCode::SUCCESS)
+}
+
 // A program over the quotes of one instrument: runs on the board that the arguments name, or refuses them. Any status
 // but 1 tells that it ran to its end.
 pub fn run_on_board<F: FnOnce(QuoteBoard) -> anyhow::Result<()>>(
@@ -46,10 +58,7 @@ pub fn run_on_board<F: FnOnce(QuoteBoard) -> anyhow::Result<()>>(
     ensures { IfOk result (λ code. (exit_status code ≡ 1) ⊎ ((board : QuoteBoard) × F.post run board (Ok tt))) }
 {
     match board_of(rt)? {
-        Some(board) => {
-            run(board)?;
-            Ok(ExitCode::SUCCESS)
-        }
+        Some(board) => run_on(board, run),
         None => refuse_arguments(rt, program),
     }
 }

@@ -1,5 +1,5 @@
 -- From what the code did to what a call comes to.
-use Rattle.std.proofs.Common.{◌≡◌, ℕ, List, length, take, Some, None, Option, sym, refl, ap, ◌∙◌}
+use Rattle.std.proofs.Common.{◌≡◌, ℕ, List, Some, None, Option, sym, refl, ap, ◌∙◌}
 use Rattle.base.specs.Questions.{first_no}
 use Rattle.law.proofs.Sweeps.{sweep_settles}
 use Rattle.orders.specs.declared.trade.Fill.{Fill}
@@ -10,7 +10,6 @@ use Rattle.rules.specs.Calls.{Makes, Swept, all_settled, between_orders, filled,
 use Rattle.rules.specs.Questions.{State, capacity_of, questions}
 use Rattle.book.specs.declared.open.OpenBook.{OpenBook}
 use Rattle.book.specs.Called.{Called}
-use Rattle.book.specs.Swept.{SweptBook}
 use Rattle.book.specs.View.{places, view}
 
 -- two states are the same where their parts are
@@ -22,15 +21,11 @@ swept_settles : {O : Type 0} (kind : Kind O) (rank : Ranking) (price : Option �
 swept_settles kind rank None xs ys fs s = s.1 ∙ ap (λ gs. all_settled kind gs xs) (sym s.0)
 swept_settles kind rank (Some p) xs ys fs s = sweep_settles kind s
 
-module _ {O P : Type 0} (kind : Kind O) (rank : Ranking) (before : OpenBook O P) where
-  -- an entry and a price are swept on the book that they make of the one before
-  module _ (made after : OpenBook O P) (tape tape_after : List Fill) (fills : ℕ) (s : SweptBook kind rank made tape after tape_after fills) where
-    abbrev told : List Fill
-    told = take fills tape_after
-
-    pub swept_on : (call : Call O) → first_no (questions kind (capacity_of (places before)) (view before) (length tape) call) ≡ 0 → (view made).resting ≡ with_entered kind call (view before).resting → made.price ≡ price_after before.price call (filled told) → made.highest ≡ highest_after kind before.highest call (filled told) → between_orders kind call told ≡ told → Makes kind rank (view before) call told → Called kind rank before call (length tape) (filled told) after
-    swept_on call none rests price highest between makes =
-        record {
-          right = (none, makes);
-          state = same_state _ _ _ _ _ _ (swept_settles kind rank made.price (view made).resting (view after).resting told s.swept ∙ ap (all_settled kind told) rests ∙ ap (λ fs. all_settled kind fs (with_entered kind call (view before).resting)) (sym between)) (s.price ∙ price) (s.highest ∙ highest);
-        }
+module _ {O P : Type 0} (kind : Kind O) (rank : Ranking) (before after : OpenBook O P) where
+  -- an entry and a price are swept on the orders that they make of those before
+  pub swept_on : (price : Option ℕ) (xs : List O) (tape : ℕ) (told : List Fill) → Swept kind rank price xs told (view after).resting → (call : Call O) → first_no (questions kind (capacity_of (places before)) (view before) tape call) ≡ 0 → xs ≡ with_entered kind call (view before).resting → after.price ≡ price_after before.price call (filled told) → after.highest ≡ highest_after kind before.highest call (filled told) → between_orders kind call told ≡ told → Makes kind rank (view before) call told → Called kind rank before call tape (filled told) after
+  swept_on price xs tape told swept call none rests in_force highest between makes =
+      record {
+        right = (none, makes);
+        state = same_state _ _ _ _ _ _ (swept_settles kind rank price xs (view after).resting told swept ∙ ap (all_settled kind told) rests ∙ ap (λ fs. all_settled kind fs (with_entered kind call (view before).resting)) (sym between)) in_force highest;
+      }

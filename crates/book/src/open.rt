@@ -54,13 +54,13 @@ impl<'a, O: Order, P: Priority> OpenBook<'a, O, P> {
         }
     }
 
-    // Sweeps at the price in force, if there is one; the caller has asked whether the tape has room for all fills. Answers
-    // how many that made.
-    fn sweep(&mut self, tape: &mut [Fill]) -> usize
-        requires { OnSome self.old.price (self.old.resting - 1 ≤ length tape.old) }
-        ensures { SweptBook O.kind P.ranking self.old tape.old self.new tape.new result }
+    // Sweeps at the price, if there is one; the caller has asked whether the tape has room for all fills. Answers how many
+    // that made.
+    fn sweep(&mut self, price: Option<u32>, tape: &mut [Fill]) -> usize
+        requires { OnSome price (self.old.resting - 1 ≤ length tape.old) }
+        ensures { SweptBook O.kind P.ranking price self.old tape.old self.new tape.new result }
     {
-        let Some(price) = self.price else {
+        let Some(price) = price else {
             return 0;
         };
         let swept = sweep::<O, P>(self.table, self.resting, price, tape).unwrap();
@@ -79,7 +79,7 @@ impl<'a, O: Order, P: Priority> OpenBook<'a, O, P> {
         self.highest = order.header().party.folio;
         self.table[self.resting] = order;
         self.resting += 1;
-        Ok(self.sweep(tape))
+        Ok(self.sweep(self.price, tape))
     }
 
     // Takes the house's order with the folio out. Answers the volume that it had left.
@@ -101,8 +101,9 @@ impl<'a, O: Order, P: Priority> OpenBook<'a, O, P> {
         ensures refused { OnErr result (self.new ≡ self.old) }
     {
         self.ask_price(price, tape.len())?;
+        let fills = self.sweep(price, tape);
         self.price = price;
-        Ok(self.sweep(tape))
+        Ok(fills)
     }
 
     // Trades a volume within one house at the price in force; no order takes part. Answers its one fill.

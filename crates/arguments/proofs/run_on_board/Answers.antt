@@ -1,5 +1,6 @@
 use Rattle.std.proofs.Common.{inr}
+use Rattle.std.proofs.lemmas.Result.{IfOk-weaker}
 use Rattle.arguments.proofs.run_on_board.Goals as goal
 
-pub returns-in_ok-run-in-Some : goal.returns-in_ok-run-in-Some
-returns-in_ok-run-in-Some g c = inr (c.in-Some.board, c.in_ok-run-in-Some.ensures)
+pub returns-in-Some : goal.returns-in-Some
+returns-in-Some g c = IfOk-weaker c.run_on.result _ _ (λ code ran. inr (c.in-Some.board, ran)) c.run_on.ensures

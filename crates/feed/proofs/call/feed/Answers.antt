@@ -9,7 +9,7 @@ returns-in_err-fills g c =
     let laid = c.in_ok-copy.ensures in
     let refused = c.in_err-fills.ensures in
     let told = err_from_is_err_and c.from_residual-in_err-fills.result c.from_residual-in_err-fills.ensures.1 in
-    rw (told.1, told.2) (inr (handed_on c.in_ok-copy.copy.rows c.midpoint.result (Err c.in_err-fills.field-0.0) laid.1 c.midpoint.ensures.value refused.called refused.tape refused.table refused.refused refl refl))
+    rw (told.1, told.2) (inr (handed_on c.in_ok-copy.copy.rows _ (Err c.in_err-fills.field-0.0) laid.1 (search rules) refused.called refused.tape refused.table refused.refused refl refl))
 
 pub returns : goal.returns
 returns g c =
@@ -19,10 +19,10 @@ returns g c =
     inr (
     handed_on
     c.in_ok-copy.copy.rows
-    c.midpoint.result
+    _
     (Ok c.in_ok-fills.fills)
     laid.1
-    c.midpoint.ensures.value
+    (search rules)
     made.called
     made.tape
     made.table

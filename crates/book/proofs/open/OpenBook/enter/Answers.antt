@@ -1,4 +1,4 @@
-use Rattle.std.proofs.Common.{◌<◌, length, refl, ap, rules}
+use Rattle.std.proofs.Common.{◌<◌, length, refl, rules}
 use Rattle.std.proofs.lemmas.List.{take_more_set}
 use Rattle.book.proofs.Made.{swept_on}
 use Rattle.rules.specs.declared.call.Call.TheVariants.{Enter}
@@ -9,4 +9,5 @@ returns-clause-called g c =
     let book = c.args.self.now in
     let within : book.resting < length book.table.now = search rules in
     let joined = take_more_set book.table.now book.resting c.args.order within in
-    swept_on g.O.Order.kind g.P.Priority.ranking book _ _ _ _ _ c.sweep.ensures (Enter c.args.order) c.in_ok-ask_entry.ensures joined refl (ap (λ h. h.party.folio) c.header.ensures) refl (_, rw joined at c.sweep.ensures.swept)
+    let swept = c.sweep.ensures in
+    swept_on g.O.Order.kind g.P.Priority.ranking book _ _ _ _ _ swept.swept (Enter c.args.order) (search rules) joined swept.in_force (search rules) refl (_, rw joined at swept.swept)

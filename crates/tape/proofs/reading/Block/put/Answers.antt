@@ -1,4 +1,4 @@
-use Rattle.std.proofs.Common.{◌≡◌, length, drop, ◌∙◌, arith}
+use Rattle.std.proofs.Common.{◌≡◌, length, drop, ◌∙◌, arith, rules}
 use Rattle.std.proofs.lemmas.List.Edits.{fill_by_more}
 use Rattle.std.proofs.lemmas.List.FromFn.{fill_by_all}
 use Rattle.std.proofs.lemmas.List.{length-take-le, take_at}
@@ -8,7 +8,8 @@ use Rattle.tape.proofs.reading.Block.put.Goals as goal
 pub loop-place-preserved : goal.loop-place-preserved
 loop-place-preserved c =
     let f = fill_at c.args.self.now.bytes.now c.args.self.now.shape.count in
-    λ d. rw c.fill.ensures (fill_by_more f c.loop-place.slot-items c.loop-place.place d (omega (arith, c.loop-place-test.true)) (c.loop-place.invariant d))
+    let read : c.fill.result ≡ f c.loop-place.place = search rules in
+    λ d. rw read (fill_by_more f c.loop-place.slot-items c.loop-place.place d (omega (arith, c.loop-place-test.true)) (c.loop-place.invariant d))
 
 pub returns-clause-front : goal.returns-clause-front
 returns-clause-front c =
