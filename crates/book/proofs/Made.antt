@@ -1,5 +1,5 @@
 -- From what the code did to what a call comes to.
-use Rattle.std.proofs.Common.{◌≡◌, ℕ, List, Some, None, Option, sym, refl, ap, ◌∙◌}
+use Rattle.std.proofs.Common.{◌≡◌, ℕ, List, Some, None, Option, sym, refl, ap, ◌∙◌, subst}
 use Rattle.base.specs.Questions.{first_no}
 use Rattle.law.proofs.Sweeps.{sweep_settles}
 use Rattle.orders.specs.declared.trade.Fill.{Fill}
@@ -20,6 +20,10 @@ same_state xs ys p q h k a b c = rw (a, b, c) refl
 swept_settles : {O : Type 0} (kind : Kind O) (rank : Ranking) (price : Option ℕ) (xs ys : List O) (fs : List Fill) → Swept kind rank price xs fs ys → ys ≡ all_settled kind fs xs
 swept_settles kind rank None xs ys fs s = s.1 ∙ ap (λ gs. all_settled kind gs xs) (sym s.0)
 swept_settles kind rank (Some p) xs ys fs s = sweep_settles kind s
+
+-- a sweep at a price, however the price is told
+pub swept_at : {O : Type 0} (kind : Kind O) (rank : Ranking) (xs ys : List O) (fs : List Fill) (p q : Option ℕ) → Swept kind rank p xs fs ys → p ≡ q → Swept kind rank q xs fs ys
+swept_at kind rank xs ys fs p q swept is = subst (λ (r : Option ℕ). Swept kind rank r xs fs ys) is swept
 
 module _ {O P : Type 0} (kind : Kind O) (rank : Ranking) (before after : OpenBook O P) where
   -- an entry and a price are swept on the orders that they make of those before
